@@ -1,0 +1,294 @@
+-- The thirteen calls of document 01, each with its tests in the order of 'Numbers given back': the first that applies refuses. A call that
+-- walks is told in two parts, up to the end of its walk and from there on. Assumes nothing.
+use mathlib.Core.Bool.{Bool, true, false, not, _&&_, _||_}
+use mathlib.Core.List.{List, [], _∷_}
+use mathlib.Core.Option.{Option, none, some}
+use Prim.Native.Nat.{ℕ, zero, suc, _+_, _-_}
+use lib.Dec.{eqb}
+use lib.ListN.{getD, set}
+use Rattle.model.specs.Lists.{any, first, put, clear}
+use Rattle.model.specs.Refusals.{Outcome, refused, granted, Test, _when_, _>>_, _>>=_}
+use Rattle.model.specs.Tables.{Place, Entry, Node, Hold, Process, Tables, a-file, a-directory, a-link, no-entry, no-node, no-process, free-entry, free-node, free-process, node-at, is-directory, at, is-process, listed, user-of}
+use Rattle.model.specs.Records.{Call}
+use Rattle.model.specs.Walk.{Goal, walk}
+use Rattle.model.specs.Holds.{root, inside, of-process, end-held, entry-held, inside-held, wanted, lacking, no-room, add-holds, copies, drop-holds, preempted, overruled}
+use Rattle.model.specs.declared.Answer.{Answer}
+use Rattle.model.specs.declared.Answer.the-variants.{Held, Seen, Done, Refused}
+
+-- what a granted call comes to: its answer, and the tables after it
+pub record Change : Type 0 where
+  pub answer : Answer
+  pub tables : Tables
+
+abbrev pub grant : Answer → Tables → Outcome Change
+grant a t = granted (record { answer = a; tables = t })
+
+-- Numbers given back, 4
+unfoldable pub unlisted : Tables → ℕ → Bool
+unlisted t p = not (listed (t .processes) p)
+
+-- CALLS 1 TO 4: PROCESSES
+
+abbrev pub with-holds-and-processes : Tables → List Hold → List Process → Tables
+with-holds-and-processes t holds processes =
+    record { entries = t .entries; nodes = t .nodes; holds = holds; processes = processes }
+
+-- Numbers given back, 6
+unfoldable pub no-free-process : Tables → Bool
+no-free-process t = not (any free-process (t .processes))
+
+unfoldable pub add-process : ℕ → ℕ → List Process → List Process
+add-process p user processes = put free-process (record { number = p; user = user }) processes
+
+unfoldable pub drop-process : ℕ → List Process → List Process
+drop-process p processes = clear (is-process p) no-process processes
+
+-- 1: the process is listed with the argument as its user
+unfoldable pub enter : Tables → Call → Outcome Change
+enter t r = do
+  5 when listed (t .processes) (r .process)
+  6 when no-free-process t
+  grant (Done (r .process))
+      (with-holds-and-processes t (t .holds) (add-process (r .process) (r .argument) (t .processes)))
+
+-- 2: the child gets the parent's user, and copies of its holds
+unfoldable pub fork : Tables → Call → Outcome Change
+fork t r = do
+  4 when unlisted t (r .process)
+  5 when listed (t .processes) (r .argument)
+  6 when no-free-process t
+  let new = copies (r .process) (r .argument) (t .holds)
+  16 when no-room t new
+  grant (Done (r .argument))
+      (with-holds-and-processes t (add-holds new (t .holds))
+      (add-process (r .argument) (user-of (t .processes) (r .process)) (t .processes)))
+
+-- 3: the caller's holds are dropped
+unfoldable pub exec : Tables → Call → Outcome Change
+exec t r = do
+  4 when unlisted t (r .process)
+  grant (Done (r .process)) (with-holds-and-processes t (drop-holds (of-process (r .process)) (t .holds)) (t .processes))
+
+-- 4: they are dropped, and the process
+unfoldable pub exit : Tables → Call → Outcome Change
+exit t r = do
+  4 when unlisted t (r .process)
+  grant (Done (r .process))
+      (with-holds-and-processes t (drop-holds (of-process (r .process)) (t .holds)) (drop-process (r .process) (t .processes)))
+
+-- CALLS 5 TO 7: CHECK, LOOK AND USE
+
+unfoldable pub absent : Goal → Bool
+absent g = eqb (g .node) 0
+
+-- Holds: a held call takes what the process lacks, after root's drops
+unfoldable pub hold-at : Tables → ℕ → Goal → Outcome Change
+hold-at t p g = do
+  let new = lacking (t .holds) (wanted p g)
+  16 when no-room t new
+  grant (Held (g .node)) (with-holds-and-processes t (add-holds new (drop-holds (preempted t p g) (t .holds))) (t .processes))
+
+-- Holds: seen where another user has an end hold on the end entry and the caller is not root, and else held
+unfoldable pub seen-or-held : Tables → ℕ → Goal → Outcome Change
+seen-or-held t p g = elim (end-held t p g && not (root t p)) [ true ↦ grant (Seen (g .node)) t | false ↦ hold-at t p g ]
+
+unfoldable pub look-at : Bool → Tables → ℕ → Goal → Outcome Change
+look-at must-exist t p g = do
+  10 when must-exist && absent g
+  seen-or-held t p g
+
+-- `last`: a link at the last name is followed; `must-exist`: an absence is refused
+unfoldable pub looking : Bool → Bool → Tables → Call → Outcome Change
+looking last must-exist t r = do
+  4 when unlisted t (r .process)
+  g ← walk (t .entries) (t .nodes) last (r .path1)
+  look-at must-exist t (r .process) g
+
+unfoldable pub check : Tables → Call → Outcome Change
+check t r = looking true false t r
+
+unfoldable pub look : Tables → Call → Outcome Change
+look t r = looking false false t r
+
+unfoldable pub use-of : Tables → Call → Outcome Change
+use-of t r = looking true true t r
+
+-- CALLS 8 TO 13: WHAT CREATION AND REMOVAL SHARE
+
+-- Numbers given back, 14: another user's hold on the end entry, and the caller is not root
+unfoldable pub blocked : Tables → ℕ → Goal → Bool
+blocked t p g = entry-held t p g && not (root t p)
+
+-- Numbers given back, 15
+unfoldable pub no-free-entry : Tables → Bool
+no-free-entry t = not (any free-entry (t .entries))
+
+unfoldable pub no-free-node : Tables → Bool
+no-free-node t = not (any free-node (t .nodes))
+
+-- Holds: a new node has the lowest free number
+unfoldable pub new-node : List Node → ℕ
+new-node nodes = first free-node 1 nodes
+
+unfoldable pub set-node : ℕ → Node → List Node → List Node
+set-node zero x nodes = nodes
+set-node (suc n) x nodes = set nodes n x
+
+unfoldable pub add-entry : Option Place → ℕ → List Entry → List Entry
+add-entry none n entries = entries
+add-entry (some q) n entries = put free-entry (record { place = q; node = n }) entries
+
+unfoldable pub drop-entry : Option Place → List Entry → List Entry
+drop-entry none entries = entries
+drop-entry (some q) entries = clear (at q) no-entry entries
+
+-- one entry more leads to the node; one less, and a node with none left is cleared
+unfoldable pub one-more : Node → Node
+one-more x = record { kind = x .kind; count = x .count + 1; target = x .target }
+
+unfoldable pub one-less : Node → Node
+one-less x = elim (eqb (x .count) 1) [ true ↦ no-node | false ↦ record { kind = x .kind; count = x .count - 1; target = x .target } ]
+
+-- the holds after root's drops
+unfoldable pub after-overruling : Tables → ℕ → Goal → List Hold
+after-overruling t p g = drop-holds (overruled t p g) (t .holds)
+
+-- CALLS 8 TO 11: CREATION
+
+-- a new entry at the end of the walk leads to node n, which is now x
+unfoldable pub with-entry : Tables → ℕ → Goal → ℕ → Node → List Hold → Tables
+with-entry t p g n x new =
+    record {
+      entries = add-entry (g .end) n (t .entries);
+      nodes = set-node n x (t .nodes);
+      holds = add-holds new (after-overruling t p g);
+      processes = t .processes;
+    }
+
+unfoldable pub make-at : ℕ → List ℕ → Tables → ℕ → Goal → Outcome Change
+make-at kind target t p g = do
+  11 when not (absent g)
+  14 when blocked t p g
+  15 when no-free-entry t || no-free-node t
+  let new = lacking (t .holds) (wanted p g)
+  16 when no-room t new
+  let n = new-node (t .nodes)
+  grant (Done n) (with-entry t p g n (record { kind = kind; count = 1; target = target }) new)
+
+-- 8 to 10: a new node of this kind with this target
+unfoldable pub make : ℕ → List ℕ → Tables → Call → Outcome Change
+make kind target t r = do
+  4 when unlisted t (r .process)
+  g ← walk (t .entries) (t .nodes) false (r .path1)
+  make-at kind target t (r .process) g
+
+unfoldable pub create : Tables → Call → Outcome Change
+create t r = make a-file [] t r
+
+unfoldable pub mkdir : Tables → Call → Outcome Change
+mkdir t r = make a-directory [] t r
+
+unfoldable pub symlink : Tables → Call → Outcome Change
+symlink t r = make a-link (r .path2) t r
+
+unfoldable pub link-at : Tables → ℕ → Goal → Goal → Outcome Change
+link-at t p g old = do
+  10 when absent old
+  11 when not (absent g)
+  12 when is-directory (t .nodes) (old .node)
+  14 when blocked t p g
+  15 when no-free-entry t
+  let new = lacking (t .holds) (wanted p g)
+  16 when no-room t new
+  grant (Done (old .node)) (with-entry t p g (old .node) (one-more (node-at (t .nodes) (old .node))) new)
+
+-- 11: one more entry leads to the old path's node
+unfoldable pub link : Tables → Call → Outcome Change
+link t r = do
+  4 when unlisted t (r .process)
+  g ← walk (t .entries) (t .nodes) false (r .path1)
+  old ← walk (t .entries) (t .nodes) false (r .path2)
+  link-at t (r .process) g old
+
+-- CALLS 12 AND 13: REMOVAL
+
+-- the entry at the end of the walk is gone, and one entry less leads to its node
+unfoldable pub without-entry : Tables → Goal → List Hold → Tables
+without-entry t g holds =
+    record {
+      entries = drop-entry (g .end) (t .entries);
+      nodes = set-node (g .node) (one-less (node-at (t .nodes) (g .node))) (t .nodes);
+      holds = holds;
+      processes = t .processes;
+    }
+
+unfoldable pub unlink-at : Tables → ℕ → Goal → Outcome Change
+unlink-at t p g = do
+  10 when absent g
+  12 when is-directory (t .nodes) (g .node)
+  14 when blocked t p g
+  let new = lacking (t .holds) (wanted p g)
+  16 when no-room t new
+  grant (Done (g .node)) (without-entry t g (add-holds new (after-overruling t p g)))
+
+-- 12
+unfoldable pub unlink : Tables → Call → Outcome Change
+unlink t r = do
+  4 when unlisted t (r .process)
+  g ← walk (t .entries) (t .nodes) false (r .path1)
+  unlink-at t (r .process) g
+
+-- the walk stopped at node 1 by `/`
+unfoldable pub at-root : Goal → Bool
+at-root g = elim (g .end) [ none ↦ true | some q ↦ false ]
+
+unfoldable pub has-entries : List Entry → ℕ → Bool
+has-entries entries d = any (λ e. eqb (e .place .directory) d) entries
+
+-- Holds, rmdir's 14: another user's hold on the end entry or inside the directory
+unfoldable pub directory-blocked : Tables → ℕ → Goal → Bool
+directory-blocked t p g = (entry-held t p g || inside-held t p (g .node)) && not (root t p)
+
+unfoldable pub rmdir-at : Tables → ℕ → Goal → Outcome Change
+rmdir-at t p g = do
+  10 when absent g
+  12 when at-root g || not (is-directory (t .nodes) (g .node))
+  13 when has-entries (t .entries) (g .node)
+  14 when directory-blocked t p g
+  let new = lacking (t .holds) (wanted p g)
+  16 when no-room t new
+  grant (Done (g .node)) (without-entry t g (add-holds new (drop-holds (inside (g .node)) (after-overruling t p g))))
+
+-- 13: all holds on entries inside are dropped too
+unfoldable pub rmdir : Tables → Call → Outcome Change
+rmdir t r = do
+  4 when unlisted t (r .process)
+  g ← walk (t .entries) (t .nodes) false (r .path1)
+  rmdir-at t (r .process) g
+
+-- THE THIRTEEN CALLS, by number
+
+unfoldable pub step : Tables → Call → Outcome Change
+step t r =
+    getD
+    (refused 2
+    ∷ enter t r
+    ∷ fork t r
+    ∷ exec t r
+    ∷ exit t r
+    ∷ check t r
+    ∷ look t r
+    ∷ use-of t r
+    ∷ create t r
+    ∷ mkdir t r
+    ∷ symlink t r
+    ∷ link t r
+    ∷ unlink t r
+    ∷ rmdir t r
+    ∷ [])
+    (r .call)
+    (refused 2)
+
+unfoldable pub computing-calls : Unit {0}
+unfolding unlisted no-free-process add-process drop-process enter fork exec exit absent hold-at seen-or-held look-at looking check look use-of blocked no-free-entry no-free-node new-node set-node add-entry drop-entry one-more one-less after-overruling with-entry make-at make create mkdir symlink link-at link without-entry unlink-at unlink at-root has-entries directory-blocked rmdir-at rmdir step
+computing-calls = tt

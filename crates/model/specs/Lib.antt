@@ -1,0 +1,13 @@
+pub mod Lists
+pub mod Refusals
+pub mod Answers
+pub mod Paths
+pub mod Tables
+pub mod Words
+pub mod Sound
+pub mod Records
+pub mod Walk
+pub mod Holds
+pub mod Calls
+pub mod Serve
+pub mod Listing

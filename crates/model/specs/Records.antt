@@ -1,0 +1,173 @@
+-- Document 01, 'The thirteen calls': the table of calls, and the record of a call, read and written. Assumes nothing.
+use mathlib.Core.Bool.{Bool, true, false, not, _&&_, _||_}
+use mathlib.Core.List.{List, [], _∷_, _++_}
+use Prim.Native.Nat.{ℕ, zero, suc, _+_, _*_, _^_}
+use lib.Dec.{eqb, leb, ltb}
+use lib.ListN.{length, getD, take, drop}
+use Rattle.model.specs.Lists.{empty}
+use Rattle.model.specs.Refusals.{Outcome, refused, granted, Test, _when_, _>>_, _>>=_}
+use Rattle.model.specs.Paths.{valid-path, valid-target}
+use Rattle.model.specs.Words.{bits}
+
+-- A call: the fields of its record.
+pub record Call : Type 0 where
+  pub call : ℕ
+  pub process : ℕ
+  pub argument : ℕ
+  pub path1 : List ℕ
+  pub path2 : List ℕ
+  pub zeros : ℕ
+
+-- THE TABLE OF CALLS
+
+pub data Class : Type 0 where
+  process-class check-class use-class creation-class removal-class : Class
+
+-- what a path's cell asks for
+pub data Wanted : Type 0 where
+  blank path target : Wanted
+
+-- The thirteen calls, a row: the class, whether the argument is wanted, what each path is to be
+pub record Row : Type 0 where
+  pub class : Class
+  pub argument : Bool
+  pub path1 : Wanted
+  pub path2 : Wanted
+
+abbrev row : Class → Bool → Wanted → Wanted → Row
+row c a p q = record { class = c; argument = a; path1 = p; path2 = q }
+
+unfoldable pub calls : List Row
+calls =
+    row process-class true blank blank  -- 1 enter: user
+    ∷ row process-class true blank blank  -- 2 fork: child
+    ∷ row process-class false blank blank  -- 3 exec
+    ∷ row process-class false blank blank  -- 4 exit
+    ∷ row check-class false path blank  -- 5 check
+    ∷ row check-class false path blank  -- 6 look
+    ∷ row use-class false path blank  -- 7 use
+    ∷ row creation-class false path blank  -- 8 create
+    ∷ row creation-class false path blank  -- 9 mkdir
+    ∷ row creation-class false path target  -- 10 symlink
+    ∷ row creation-class false path path  -- 11 link: new path, old path
+    ∷ row removal-class false path blank  -- 12 unlink
+    ∷ row removal-class false path blank  -- 13 rmdir
+    ∷ []
+
+-- a call's row; an unknown call's has blanks alone
+unfoldable pub row-of : ℕ → Row
+row-of zero = row process-class false blank blank
+row-of (suc n) = getD calls n (row process-class false blank blank)
+
+unfoldable pub known : ℕ → Bool
+known c = leb 1 c && leb c (length calls)
+
+-- a blank path is there all the same; a wanted one is not valid
+unfoldable pub not-blank : Wanted → List ℕ → Bool
+not-blank blank s = not (empty s)
+not-blank path s = false
+not-blank target s = false
+
+unfoldable pub not-valid : Wanted → List ℕ → Bool
+not-valid blank s = false
+not-valid path s = not (valid-path s)
+not-valid target s = not (valid-target s)
+
+-- the call whose argument is a child
+abbrev pub fork-call : ℕ
+fork-call = 2
+
+-- Numbers given back, 2: an unknown call, process 0, child 0, something in a blank cell, zero bits set
+unfoldable pub fields-broken : Call → Bool
+fields-broken r =
+    not (known (r .call)) || eqb (r .process) 0 || (eqb (r .call) fork-call && eqb (r .argument) 0)
+    || (not (row-of (r .call) .argument) && not (eqb (r .argument) 0))
+    || not-blank (row-of (r .call) .path1) (r .path1)
+    || not-blank (row-of (r .call) .path2) (r .path2)
+    || not (eqb (r .zeros) 0)
+
+-- Numbers given back, 3: path 1, or path 2, not valid
+unfoldable pub paths-broken : Call → Bool
+paths-broken r = not-valid (row-of (r .call) .path1) (r .path1) || not-valid (row-of (r .call) .path2) (r .path2)
+
+-- what reading, packing and serving ask of a call's fields
+unfoldable pub well-formed : Call → Outcome Call
+well-formed r = do
+  2 when fields-broken r
+  3 when paths-broken r
+  granted r
+
+-- READING
+
+-- the number that bytes are, the first the most significant
+unfoldable pub number : ℕ → List ℕ → ℕ
+number n [] = n
+number n (b ∷ s) = number (n * 256 + b) s
+
+-- The thirteen calls, a record's fields: call 5 bits, process 16, argument 16, the paths' lengths 8 each, 3 zeros; then the paths
+unfoldable pub fields-from : ℕ → List ℕ → Call
+fields-from head s =
+    record {
+      call = bits 51 5 head;
+      process = bits 35 16 head;
+      argument = bits 19 16 head;
+      path1 = take (bits 11 8 head) s;
+      path2 = take (bits 3 8 head) (drop (bits 11 8 head) s);
+      zeros = bits 0 3 head;
+    }
+
+unfoldable pub head-of : List ℕ → ℕ
+head-of s = number 0 (take 7 s)
+
+unfoldable pub fields : List ℕ → Call
+fields s = fields-from (head-of s) (drop 7 s)
+
+-- how many bytes the lengths in a record's head ask for
+unfoldable pub asked : List ℕ → ℕ
+asked s = 7 + bits 11 8 (head-of s) + bits 3 8 (head-of s)
+
+-- Numbers given back, 17: fewer bytes than 7, or than the lengths ask for
+unfoldable pub short : List ℕ → Bool
+short s = elim (ltb (length s) 7) [ true ↦ true | false ↦ ltb (length s) (asked s) ]
+
+-- Numbers given back: the bytes taken are the record's, and none for 17
+unfoldable pub taken : List ℕ → ℕ
+taken s = elim (short s) [ true ↦ 0 | false ↦ asked s ]
+
+-- reading a record: refused with 17, 2 or 3, or the call
+unfoldable pub read : List ℕ → Outcome Call
+read s = do
+  17 when short s
+  well-formed (fields s)
+
+-- WRITING
+
+unfoldable pub head : Call → ℕ
+head r =
+    r .call * 2 ^ 51 + r .process * 2 ^ 35 + r .argument * 2 ^ 19 + length (r .path1) * 2 ^ 11 + length (r .path2) * 2 ^ 3 + r .zeros
+
+unfoldable pub head-bytes : ℕ → List ℕ
+head-bytes h = bits 48 8 h ∷ bits 40 8 h ∷ bits 32 8 h ∷ bits 24 8 h ∷ bits 16 8 h ∷ bits 8 8 h ∷ bits 0 8 h ∷ []
+
+-- the record of a call
+unfoldable pub write : Call → List ℕ
+write r = head-bytes (head r) ++ (r .path1 ++ r .path2)
+
+unfoldable pub record-length : Call → ℕ
+record-length r = 7 + length (r .path1) + length (r .path2)
+
+-- Numbers given back, packing: 2, then 3, then 18 where the destination is shorter than the record; else the record's length
+unfoldable pub packing : Call → List ℕ → Outcome ℕ
+packing r destination = do
+  r ← well-formed r
+  18 when ltb (length destination) (record-length r)
+  granted (record-length r)
+
+-- Numbers given back, packing: what the destination holds then; nothing is written where packing is refused, and nothing behind the record
+unfoldable pub packed : Call → List ℕ → Outcome ℕ → List ℕ
+packed r destination (refused n) = destination
+packed r destination (granted n) = write r ++ drop n destination
+
+unfoldable pub computing-records : Unit {0}
+unfolding calls row-of known not-blank not-valid fields-broken paths-broken well-formed number fields-from head-of fields asked short taken read head head-bytes write record-length packing packed
+computing-records = tt
