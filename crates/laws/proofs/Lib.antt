@@ -1,1 +1,11 @@
 pub mod Bools
+pub mod Chains
+pub mod Choices
+pub mod Counts
+pub mod Each
+pub mod Grants
+pub mod Members
+pub mod Pieces
+pub mod Places
+pub mod Rules
+pub mod Searches

@@ -1,6 +1,6 @@
 -- Examples for 'The thirteen calls' and 'Numbers given back': the order of the tests, processes, and the rows that calls take and clear.
 -- Assumes nothing.
-use mathlib.Core.List.{List, [], _∷_, _++_}
+use mathlib.Core.List.{List, [], _∷_}
 use Rattle.model.proofs.Stories.{enters, forks, execs, exits, checks, looks, uses, creates, mkdirs, symlinks, links, unlinks, rmdirs}
 use Rattle.model.proofs.Telling.{Example, answers-so, leaves-entries, leaves-nodes, room-for, room}
 

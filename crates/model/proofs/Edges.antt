@@ -1,7 +1,7 @@
 -- Document 01, 'At the edges': the cases marked P, one table with a single claim, `edges-hold`, computed over `serve` on the 8,512 words.
 -- Assumes nothing.
 use mathlib.Core.Path.{_≡_, refl}
-use mathlib.Core.Bool.{Bool, true, false, not, _&&_}
+use mathlib.Core.Bool.{Bool, true, not, _&&_}
 use mathlib.Core.List.{List, [], _∷_, map}
 use Prim.Native.Nat.{ℕ}
 use Prim.Native.String as S

@@ -1,14 +1,13 @@
 -- How the examples of the second table are told: calls played over rows, the rows they leave as text, bytes read and packed. Assumes nothing.
-use mathlib.Core.Path.{_≡_, refl}
 use mathlib.Core.Bool.{Bool, true, false, not, _&&_}
 use mathlib.Core.List.{List, [], _∷_, _++_}
-use Prim.Native.Nat.{ℕ, zero, suc}
+use Prim.Native.Nat.{ℕ, suc}
 use Prim.Native.String as S
 use lib.Dec.{eqb}
-use lib.ListN.{length, replicate, set}
-use Rattle.model.specs.Lists.{same, all}
+use lib.ListN.{replicate, set}
+use Rattle.model.specs.Lists.{same}
 use Rattle.model.specs.Refusals.{Outcome, refused, granted, _>>=_}
-use Rattle.model.specs.Answers.{word-of, number-of}
+use Rattle.model.specs.Answers.{number-of}
 use Rattle.model.specs.Tables.{Entry, Node, Hold, Tables, a-directory, no-entry, no-node, no-hold, no-process, free-entry, free-node, free-hold}
 use Rattle.model.specs.Records.{Call, taken, read, well-formed, packing, packed}
 use Rattle.model.specs.Sound.{is-end, sound-rows, sound}
@@ -17,7 +16,7 @@ use Rattle.model.specs.Serve.{serve}
 use Rattle.model.specs.Listing.{text, digits, lines, computing-listing}
 use Rattle.model.specs.declared.Answer.{Answer}
 use Rattle.model.specs.declared.Answer.the-variants.{Refused}
-use Rattle.model.proofs.Stories.{call, enters, forks, execs, exits, checks, looks, uses, creates, mkdirs, symlinks, links, unlinks, rmdirs}
+use Rattle.model.proofs.Stories.{call}
 
 -- PLAYING CALLS OVER ROWS
 

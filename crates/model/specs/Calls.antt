@@ -7,13 +7,13 @@ use Prim.Native.Nat.{ℕ, zero, suc, _+_, _-_}
 use lib.Dec.{eqb}
 use lib.ListN.{getD, set}
 use Rattle.model.specs.Lists.{any, first, put, clear}
-use Rattle.model.specs.Refusals.{Outcome, refused, granted, Test, _when_, _>>_, _>>=_}
+use Rattle.model.specs.Refusals.{Outcome, refused, granted, _when_, _>>_, _>>=_}
 use Rattle.model.specs.Tables.{Place, Entry, Node, Hold, Process, Tables, a-file, a-directory, a-link, no-entry, no-node, no-process, free-entry, free-node, free-process, node-at, is-directory, at, is-process, listed, user-of}
 use Rattle.model.specs.Records.{Call}
 use Rattle.model.specs.Walk.{Goal, walk}
 use Rattle.model.specs.Holds.{root, inside, of-process, end-held, entry-held, inside-held, wanted, lacking, no-room, add-holds, copies, drop-holds, preempted, overruled}
 use Rattle.model.specs.declared.Answer.{Answer}
-use Rattle.model.specs.declared.Answer.the-variants.{Held, Seen, Done, Refused}
+use Rattle.model.specs.declared.Answer.the-variants.{Held, Seen, Done}
 
 -- what a granted call comes to: its answer, and the tables after it
 pub record Change : Type 0 where

@@ -1,12 +1,12 @@
 -- Document 01, 'Holds': who holds what, and which holds a call takes and drops. Assumes nothing.
-use mathlib.Core.Bool.{Bool, true, false, not, _&&_, _||_}
+use mathlib.Core.Bool.{Bool, true, false, not, _&&_}
 use mathlib.Core.List.{List, [], _∷_, _++_, map}
 use mathlib.Core.Option.{Option, none, some}
 use Prim.Native.Nat.{ℕ}
 use lib.Dec.{eqb, ltb}
 use lib.ListN.{length}
 use Rattle.model.specs.Lists.{any, count, keep, put-all, clear}
-use Rattle.model.specs.Tables.{Place, Hold, Process, Tables, end-role, element-role, no-hold, free-hold, same-place, user-of}
+use Rattle.model.specs.Tables.{Place, Hold, Tables, end-role, element-role, no-hold, free-hold, same-place, user-of}
 use Rattle.model.specs.Sound.{same-hold, is-end}
 use Rattle.model.specs.Walk.{Goal}
 

@@ -5,7 +5,7 @@ use Prim.Native.Nat.{ℕ, zero, suc, _+_, _*_, _^_}
 use lib.Dec.{eqb, leb, ltb}
 use lib.ListN.{length, getD, take, drop}
 use Rattle.model.specs.Lists.{empty}
-use Rattle.model.specs.Refusals.{Outcome, refused, granted, Test, _when_, _>>_, _>>=_}
+use Rattle.model.specs.Refusals.{Outcome, refused, granted, _when_, _>>_, _>>=_}
 use Rattle.model.specs.Paths.{valid-path, valid-target}
 use Rattle.model.specs.Words.{bits}
 

@@ -1,11 +1,11 @@
 -- A record served over lent words, and a run of records: document 01, 'Numbers given back' as a whole. Assumes nothing.
-use mathlib.Core.Bool.{Bool, true, false, not}
+use mathlib.Core.Bool.{true, false, not}
 use mathlib.Core.List.{List, [], _∷_}
 use Prim.Native.Nat.{ℕ, zero, suc}
 use lib.Dec.{eqb}
 use lib.ListN.{length, take, drop}
 use Rattle.model.specs.Lists.{empty, computing-lists}
-use Rattle.model.specs.Refusals.{Outcome, refused, granted, Test, _when_, _>>_, _>>=_, computing-refusals}
+use Rattle.model.specs.Refusals.{Outcome, refused, granted, _when_, _>>_, _>>=_, computing-refusals}
 use Rattle.model.specs.Answers.{computing-answers}
 use Rattle.model.specs.Paths.{computing-paths}
 use Rattle.model.specs.Tables.{Tables, fresh, computing-tables}
@@ -16,7 +16,7 @@ use Rattle.model.specs.Walk.{computing-walk}
 use Rattle.model.specs.Holds.{computing-holds}
 use Rattle.model.specs.Calls.{Change, step, computing-calls}
 use Rattle.model.specs.declared.Answer.{Answer}
-use Rattle.model.specs.declared.Answer.the-variants.{Held, Seen, Done, Refused}
+use Rattle.model.specs.declared.Answer.the-variants.{Refused}
 
 -- what serving gives: the answer, the bytes taken, and the words afterwards
 pub record Served : Type 0 where

@@ -1,9 +1,8 @@
 -- Document 01, 'The lent tables', what sound tables are: each rule by itself, in the order of the text. Assumes nothing.
 use mathlib.Core.Bool.{Bool, true, false, not, _&&_, _||_}
-use mathlib.Core.List.{List, [], _∷_}
+use mathlib.Core.List.{List}
 use Prim.Native.Nat.{ℕ}
 use lib.Dec.{eqb, leb}
-use lib.ListN.{length}
 use Rattle.model.specs.Lists.{same, empty, all, all-from, count, distinct}
 use Rattle.model.specs.Paths.{valid-name, valid-target}
 use Rattle.model.specs.Tables.{Entry, Node, Hold, Process, Tables, a-link, a-directory, end-role, element-role, free-entry, free-node, free-hold, free-process, same-place, node-at, is-directory, listed, user-of}

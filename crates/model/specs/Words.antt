@@ -1,12 +1,12 @@
 -- Document 01, 'The lent tables': the words that hold the rows, fields packed most significant bit first. Assumes nothing.
-use mathlib.Core.Bool.{Bool, true, false}
+use mathlib.Core.Bool.{true, false}
 use mathlib.Core.List.{List, [], _∷_, _++_, map}
 use Prim.Native.Nat.{ℕ, _+_, _*_, _^_, _/_, _%_}
 use lib.Dec.{eqb}
 use lib.ListN.{length, getD, take, drop, replicate}
 use Rattle.model.specs.Lists.{pieces, joined, filled}
 use Rattle.model.specs.Paths.{Name}
-use Rattle.model.specs.Tables.{Place, Entry, Node, Hold, Process, Tables, no-entry, no-node, no-hold, no-process, free-entry, free-node, free-hold, free-process, entry-rows, node-rows, hold-rows, process-rows}
+use Rattle.model.specs.Tables.{Entry, Node, Hold, Process, Tables, no-entry, no-node, no-hold, no-process, free-entry, free-node, free-hold, free-process, entry-rows, node-rows, hold-rows, process-rows}
 
 -- the k bits of a number above its lowest n
 unfoldable pub bits : ℕ → ℕ → ℕ → ℕ

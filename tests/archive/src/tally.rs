@@ -1,0 +1,38 @@
+//! How often each answer came.
+
+use std::collections::BTreeMap;
+
+use reference::Answer;
+
+/// The counts, by the answer's word and, for a refusal, its number.
+#[derive(Default)]
+pub struct Tally {
+    counts: BTreeMap<String, usize>,
+}
+
+impl Tally {
+    /// One more of this answer.
+    pub fn count(&mut self, answer: Answer) {
+        let name = match answer {
+            Answer::Refused(number) => format!("refused {number}"),
+            other => other.word().to_string(),
+        };
+        *self.counts.entry(name).or_default() += 1;
+    }
+
+    /// Prints the counts; an error where one of the expected came fewer times than asked.
+    pub fn report(&self, title: &str, expected: &[String], least: usize) -> Result<(), String> {
+        println!("{title}: {:?}", self.counts);
+        let rare: Vec<&String> = expected.iter().filter(|name| self.counts.get(*name).copied().unwrap_or(0) < least).collect();
+        if rare.is_empty() {
+            Ok(())
+        } else {
+            Err(format!("{title}: came fewer than {least} times: {rare:?}"))
+        }
+    }
+}
+
+/// The names of these refusals.
+pub fn refusals(numbers: impl IntoIterator<Item = u32>) -> Vec<String> {
+    numbers.into_iter().map(|number| format!("refused {number}")).collect()
+}
