@@ -1,11 +1,15 @@
 pub mod Bools
 pub mod Chains
 pub mod Choices
+pub mod Copies
 pub mod Counts
 pub mod Each
+pub mod Elements
 pub mod Grants
+pub mod Loops
 pub mod Members
 pub mod Pieces
 pub mod Places
+pub mod Results
 pub mod Rules
 pub mod Searches

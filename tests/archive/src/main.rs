@@ -1,7 +1,6 @@
 //! Holds the proved archive against the reference on seeded random input, and prints how often
 //! each answer came. The first difference is told and ends it.
 
-mod proved;
 mod records;
 mod tally;
 

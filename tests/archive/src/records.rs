@@ -2,9 +2,8 @@
 
 use reference::generate::{Mode, Random, Trace};
 use reference::records::{pack, read};
-use reference::Answer;
+use tickbutton::{archive, Answer};
 
-use crate::proved;
 use crate::tally::{refusals, Tally};
 
 const LEAST: usize = 100;
@@ -51,7 +50,7 @@ fn some_bytes(random: &mut Random, trace: &mut Trace) -> Vec<u8> {
 }
 
 fn one_reading(bytes: &[u8]) -> Result<Answer, String> {
-    let (answer, taken, fields) = proved::read(bytes);
+    let (answer, taken, fields) = archive::read(bytes);
     let (expected, expected_taken, expected_fields) = match read(bytes) {
         Err((number, taken)) => (Answer::Refused(number), taken, [0; 6]),
         Ok((call, taken)) => {
@@ -77,10 +76,11 @@ fn one_packing(random: &mut Random) -> Result<Answer, String> {
     let argument = if call <= 2 || random.percent(3) { random.below(65_536) as u16 } else { 0 };
     let path1 = if call <= 4 && random.percent(95) { Vec::new() } else { some_path(random, true) };
     let path2 = if call == 11 || call == 10 || random.percent(3) { some_path(random, call == 11) } else { Vec::new() };
-    let size = random.below(if random.percent(50) { 40 } else { 600 });
+    let most = if random.percent(50) { 40 } else { 600 };
+    let size = random.below(most);
     let mut destination: Vec<u8> = (0..size).map(|_| random.below(256) as u8).collect();
     let mut expected_destination = destination.clone();
-    let answer = proved::pack(call, process, argument, &path1, &path2, &mut destination);
+    let answer = archive::pack(call, process, argument, &path1, &path2, &mut destination);
     let expected = match pack(u64::from(call), process, argument, &path1, &path2, &mut expected_destination) {
         Ok(length) => Answer::Done(length as u32),
         Err(number) => Answer::Refused(number),

@@ -2,7 +2,7 @@
 
 use std::collections::BTreeMap;
 
-use reference::Answer;
+use tickbutton::Answer;
 
 /// The counts, by the answer's word and, for a refusal, its number.
 #[derive(Default)]
@@ -14,8 +14,10 @@ impl Tally {
     /// One more of this answer.
     pub fn count(&mut self, answer: Answer) {
         let name = match answer {
+            Answer::Held(_) => "held".to_string(),
+            Answer::Seen(_) => "seen".to_string(),
+            Answer::Done(_) => "done".to_string(),
             Answer::Refused(number) => format!("refused {number}"),
-            other => other.word().to_string(),
         };
         *self.counts.entry(name).or_default() += 1;
     }

@@ -1,7 +1,6 @@
-//! The functions of the archive, as safe ones. Nothing checks these declarations against the
-//! proved source (crates/exports/src/lib.rt); they stand in this one place.
+//! The functions of the archive as they are, behind safe signatures.
 
-use reference::Answer;
+use crate::Answer;
 
 extern "C" {
     fn tickbutton_read(bytes: *const u8, count: usize, fields: *mut u32) -> u64;
@@ -18,7 +17,8 @@ extern "C" {
     ) -> u64;
 }
 
-/// An answer as the archive's numbers tell it: its word and number, and the bytes taken.
+/// An answer and the bytes taken, as the archive tells them in one number: the answer's number in
+/// the lower 32 bits, its word in the two above, the bytes taken above those.
 fn answer(told: u64) -> (Answer, usize) {
     let number = told as u32;
     let answer = match (told >> 32) & 3 {
@@ -30,19 +30,21 @@ fn answer(told: u64) -> (Answer, usize) {
     (answer, (told >> 34) as usize)
 }
 
-/// What reading gives: done with the call's number or refused, the bytes taken, and the fields
-/// (process, argument, and where path 1 and path 2 start and how long they are).
+/// Reads the record at the front of the bytes: done with the call's number or refused with 17, 2
+/// or 3; the bytes taken; and the process, the argument, and the start and length of path 1 and
+/// path 2, all 0 where it is refused.
 pub fn read(bytes: &[u8]) -> (Answer, usize, [u32; 6]) {
-    let mut fields = [0xEEEE_EEEE; 6];
-    // The slice is read alone, and six numbers are written.
+    let mut fields = [0; 6];
+    // SAFETY: the bytes are read alone, and six numbers are written.
     let told = unsafe { tickbutton_read(bytes.as_ptr(), bytes.len(), fields.as_mut_ptr()) };
     let (answer, taken) = answer(told);
     (answer, taken, fields)
 }
 
-/// What packing gives: done with the record's length, or refused.
+/// Packs a call into the front of the destination: done with the record's length, or refused with
+/// 2, 3 or 18, and then nothing is written.
 pub fn pack(call: u32, process: u16, argument: u16, path1: &[u8], path2: &[u8], destination: &mut [u8]) -> Answer {
-    // Each slice is passed with its own length, and the destination alone is written.
+    // SAFETY: each slice is passed with its own length, and the destination alone is written.
     let told = unsafe {
         tickbutton_pack(
             call,

@@ -1,0 +1,22 @@
+-- Each exported function's contract leaves one result and one content of what it may write. Assumes nothing.
+use mathlib.Core.Path.{sym, _∙_}
+use denote.Ref.{now}
+use Rattle.laws.proofs.Results.{One-result, One-exit}
+use Rattle.exports.proofs.tickbutton_read.Kinds as read-kinds
+use Rattle.exports.proofs.tickbutton_read.Reads as read-reads
+use Rattle.exports.proofs.tickbutton_pack.Kinds as pack-kinds
+use Rattle.exports.proofs.tickbutton_pack.Reads as pack-reads
+
+pub read-determined : One-result 2 read-kinds.ps read-kinds.r read-reads.Post
+read-determined κs a x y s t p q = p .answer ∙ sym (q .answer)
+
+-- the fields are the second parameter
+pub read-fields-determined : One-exit 2 read-kinds.ps read-kinds.r read-reads.Post (λ κs s. now (s .1 .0))
+read-fields-determined κs a x y s t p q = p .numbers ∙ sym (q .numbers)
+
+pub pack-determined : One-result 3 pack-kinds.ps pack-kinds.r pack-reads.Post
+pack-determined κs a x y s t p q = p .answer ∙ sym (q .answer)
+
+-- the destination is the sixth parameter
+pub pack-destination-determined : One-exit 3 pack-kinds.ps pack-kinds.r pack-reads.Post (λ κs s. now (s .1 .1 .1 .1 .1 .0))
+pack-destination-determined κs a x y s t p q = p .bytes ∙ sym (q .bytes)

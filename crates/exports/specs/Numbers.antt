@@ -1,0 +1,58 @@
+-- How answers are numbers for those who link the archive: the one definition that every exported function promises by. Assumes nothing.
+use mathlib.Core.Path.{_≡_}
+use mathlib.Core.List.{List, [], _∷_}
+use Prim.Native.Nat.{ℕ, _+_, _*_, _^_, _<_}
+use lib.ListN.{replicate}
+use Rattle.model.specs.Refusals.{Outcome, refused, granted}
+use Rattle.model.specs.Records.{Call, taken, read, packing, packed}
+use Rattle.records.specs.Reading.{fields-of}
+use Rattle.records.specs.declared.Fields.{Fields}
+use Rattle.model.specs.declared.Answer.{Answer}
+use Rattle.model.specs.declared.Answer.the-variants.{Held, Seen, Done, Refused}
+
+-- the words held, seen, done and refused are 0, 1, 2 and 3
+unfoldable pub word-number : Answer → ℕ
+word-number (Held n) = 0
+word-number (Seen n) = 1
+word-number (Done n) = 2
+word-number (Refused n) = 3
+
+-- the number in 32 bits, the word in two above them, the bytes taken above those
+unfoldable pub answer-number : ℕ → ℕ → ℕ → ℕ
+answer-number word number bytes = bytes * 2 ^ 34 + word * 2 ^ 32 + number
+
+-- READING
+
+unfoldable pub reading-number : Outcome Call → ℕ → ℕ
+reading-number (refused n) bytes = answer-number 3 n bytes
+reading-number (granted r) bytes = answer-number 2 (r .call) bytes
+
+-- process, argument, and where each path starts and how long it is
+abbrev pub field-numbers : Fields → List ℕ
+field-numbers f =
+    f .process ∷ f .argument ∷ f .path1 .start ∷ f .path1 .length ∷ f .path2 .start ∷ f .path2 .length ∷ []
+
+unfoldable pub reading-fields : Outcome Call → List ℕ
+reading-fields (refused n) = replicate 6 0
+reading-fields (granted r) = field-numbers (fields-of r)
+
+-- the positions of a record's paths are small numbers
+pub record Small (f : Fields) : Type 0 where
+  pub start1 : f .path1 .start < 4294967296
+  pub length1 : f .path1 .length < 4294967296
+  pub start2 : f .path2 .start < 4294967296
+  pub length2 : f .path2 .length < 4294967296
+
+pub record Reads-as (s : List ℕ) (r : ℕ) (fields : List ℕ) : Type 0 where
+  pub answer : r ≡ reading-number (read s) (taken s)
+  pub numbers : fields ≡ reading-fields (read s)
+
+-- PACKING
+
+unfoldable pub packing-number : Outcome ℕ → ℕ
+packing-number (refused n) = answer-number 3 n 0
+packing-number (granted n) = answer-number 2 n 0
+
+pub record Packs-as (c : Call) (before : List ℕ) (r : ℕ) (after : List ℕ) : Type 0 where
+  pub answer : r ≡ packing-number (packing c before)
+  pub bytes : after ≡ packed c before (packing c before)

@@ -1,0 +1,73 @@
+// The functions of the archive, for C and Rust to link: numbers and slices alone, no function requires anything, and each gives what the proved
+// function below it gives, as numbers by one definition.
+ghost use Rattle.records.specs.Packing.{called};
+ghost use Rattle.exports.specs.Numbers.{answer-number, field-numbers, Small, Reads-as, Packs-as};
+ghost use mathlib.Core.Path.{_≡_};
+ghost use Prim.Native.Nat.{_<_};
+use records::Fields;
+use records::Packing;
+use records::Reading;
+
+const DONE: u64 = 2;
+
+const REFUSED: u64 = 3;
+
+// An answer as one number: the answer's number in the lower 32 bits, its word in the two above, and the bytes taken above those.
+fn told(word: u64, number: u64, taken: u64) -> u64
+    requires { ⌜ (word < 4) × (number < 4294967296) × (taken < 65536) ⌝ }
+    ensures { λ r. ⌜ r ≡ answer-number word number taken ⌝ }
+{
+    taken * 17179869184 + word * 4294967296 + number
+}
+
+fn put_fields(fields: &mut [u32; 6], f: Fields)
+    requires { ⌜ Small f ⌝ }
+    ensures { λ _. ⌜ now (fields .exit) ≡ field-numbers f ⌝ }
+{
+    let path1 = f.path1;
+    let path2 = f.path2;
+    *fields = [
+        f.process as u32,
+        f.argument as u32,
+        path1.start as u32,
+        path1.length as u32,
+        path2.start as u32,
+        path2.length as u32,
+    ];
+}
+
+// Reads the record at the front of the bytes: done with the call's number, or refused; the six fields are the process, the argument, and the
+// start and length of path 1 and path 2, all 0 where it is refused.
+#[no_mangle]
+pub extern "C" fn tickbutton_read(bytes: &[u8], fields: &mut [u32; 6]) -> u64
+    ensures { λ r. ⌜ Reads-as (now (bytes .entry)) r (now (fields .exit)) ⌝ }
+{
+    match records::read(bytes) {
+        Reading::Accepted { fields: f, taken } => {
+            put_fields(fields, f);
+            told(DONE, f.call as u64, taken as u64)
+        }
+        Reading::Refused { number, taken } => {
+            *fields = [0; 6];
+            told(REFUSED, number as u64, taken as u64)
+        }
+    }
+}
+
+// Packs a call into the front of the destination: done with the record's length, or refused, and then nothing is written.
+#[no_mangle]
+pub extern "C" fn tickbutton_pack(
+    call: u32,
+    process: u16,
+    argument: u16,
+    path1: &[u8],
+    path2: &[u8],
+    destination: &mut [u8],
+) -> u64
+    ensures { λ r. ⌜ Packs-as (called call process argument (now (path1 .entry)) (now (path2 .entry))) (now (destination .entry)) r (now (destination .exit)) ⌝ }
+{
+    match records::pack(call, process, argument, path1, path2, destination) {
+        Packing::Length(length) => told(DONE, length as u64, 0),
+        Packing::Refused(number) => told(REFUSED, number as u64, 0),
+    }
+}

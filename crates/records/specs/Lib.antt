@@ -1,0 +1,4 @@
+pub mod Rows
+pub mod Given
+pub mod Reading
+pub mod Packing
