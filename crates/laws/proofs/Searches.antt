@@ -22,6 +22,12 @@ module _ {A : Type 0} where
   pub none-weaker : (m t : A → Bool) → ((a : A) → m a ≡ true → t a ≡ true) → (rows : List A) → any t rows ≡ false → any m rows ≡ false
   none-weaker m t weaker rows e = is-false (any m rows) (λ h. clash (any-weaker m t weaker rows h) e)
 
+  -- tests that say the same of every row
+  pub any-alike : (m t : A → Bool) → ((a : A) → m a ≡ t a) → (rows : List A) → any m rows ≡ any t rows
+  unfolding any
+  any-alike m t alike [] = refl
+  any-alike m t alike (a ∷ rows) = rw (alike a, any-alike m t alike rows)
+
 -- THE ROW FOUND
 
 module _ {A : Type 0} (m : A → Bool) (d : A) where

@@ -1,0 +1,19 @@
+// Call 3: the caller's holds are dropped.
+ghost use Rattle.model.specs.Calls.{exec};
+ghost use Rattle.model.specs.Words.{unpack};
+ghost use Rattle.rows.specs.Stands.{Stands};
+ghost use Rattle.calls.specs.Meets.{Meets, process-call};
+use crate::processes::is_unlisted;
+use holds::drop_of_process;
+use model::Answer;
+
+pub fn exec(words: &mut [u32], process: u16) -> Answer
+    requires { ⌜ Stands (now words) ⌝ }
+    ensures { λ r. ⌜ Meets (now (words .entry)) (exec (unpack (now (words .entry))) (process-call 3 process 0)) r (now (words .exit)) ⌝ }
+{
+    if is_unlisted(words, process) {
+        return Answer::Refused(4);
+    }
+    drop_of_process(words, process);
+    Answer::Done(process)
+}

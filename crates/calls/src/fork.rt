@@ -1,0 +1,47 @@
+// Call 2: the child is listed with the parent's user, and gets copies of its holds.
+ghost use mathlib.Core.Path.{_≡_};
+ghost use Prim.Native.Nat.{_≤_};
+ghost use Rattle.model.specs.Calls.{fork};
+ghost use Rattle.model.specs.Holds.{no-room, copies};
+ghost use Rattle.model.specs.Words.{unpack};
+ghost use Rattle.rows.specs.Stands.{Stands};
+ghost use Rattle.calls.specs.Meets.{Meets, process-call};
+use crate::processes::add_process;
+use crate::processes::is_unlisted;
+use crate::processes::lacks_process_row;
+use model::Answer;
+use plans::copy_holds;
+use plans::count_of_process;
+use search::free_hold_rows;
+use search::is_listed;
+use search::user_of_process;
+
+fn lacks_room_for_copies(words: &[u32], parent: u16, child: u16) -> bool
+    requires { ⌜ Stands (now words) ⌝ }
+    ensures { λ r. ⌜ r ≡ no-room (unpack (now (words .entry))) (copies parent child (unpack (now (words .entry)) .holds)) ⌝ }
+{
+    let wanted = count_of_process(words, parent);
+    free_hold_rows(words) < wanted
+}
+
+pub fn fork(words: &mut [u32], process: u16, child: u16) -> Answer
+    requires { ⌜ (Stands (now words)) × ((1 ≤ process) × (1 ≤ child)) ⌝ }
+    ensures { λ r. ⌜ Meets (now (words .entry)) (fork (unpack (now (words .entry))) (process-call 2 process child)) r (now (words .exit)) ⌝ }
+{
+    if is_unlisted(words, process) {
+        return Answer::Refused(4);
+    }
+    if is_listed(words, child) {
+        return Answer::Refused(5);
+    }
+    if lacks_process_row(words) {
+        return Answer::Refused(6);
+    }
+    if lacks_room_for_copies(words, process, child) {
+        return Answer::Refused(16);
+    }
+    let user = user_of_process(words, process);
+    copy_holds(words, process, child);
+    add_process(words, child, user);
+    Answer::Done(child)
+}

@@ -1,0 +1,38 @@
+-- `edits::clear_node` meets its contract: the nodes' part is lent. Assumes nothing.
+use borrow.Author.Needs.{needs}
+use Rattle.edits.proofs.Written.{clear-node-is}
+use Rattle.edits.proofs.clear_node.Statement.{statement}
+use Rattle.edits.proofs.clear_node.Tie as tie
+
+sub-put-zeros : tie.Need-sub-put-zeros
+sub-put-zeros c = search needs
+
+part-put-zeros-start : tie.Need-part-put-zeros-start
+part-put-zeros-start c = search needs
+
+part-put-zeros-end : tie.Need-part-put-zeros-end
+part-put-zeros-end c = search needs
+
+mul-put-zeros : tie.Need-mul-put-zeros
+mul-put-zeros c = search needs
+
+put-zeros-requires : tie.Need-put-zeros-requires
+put-zeros-requires c κs = search needs
+
+same-length : tie.Need-same-length
+same-length c = search needs
+
+returns : tie.Need-returns
+returns c = clear-node-is (c .before .before .before .before .before .pre .0) (c .before .before .before .before .before .args .row) (c .before .before .before .before .before .pre .1) (c .before .before .put-zeros .ensures)
+
+pub clear-node-spec : {M : Type 1} → statement M
+clear-node-spec =
+    tie.close
+    (tie.spec
+    sub-put-zeros
+    part-put-zeros-start
+    part-put-zeros-end
+    mul-put-zeros
+    put-zeros-requires
+    same-length
+    returns)

@@ -1,0 +1,52 @@
+-- What making words fresh comes to, and that no other answer and no other words meet its contract. Assumes nothing.
+use mathlib.Core.Path.{_≡_, refl, sym, ap, _∙_}
+use mathlib.Core.List.{List}
+use Prim.Native.Nat.{ℕ, _+_, _<_}
+use native.Mathlib.Omega.{arith}
+use native.Mathlib.Nat.{zero-add}
+use borrow.Author.Tests.{eq-eqb, ne-eqb}
+use lib.ListN.{length, drop, set, replicate, length-replicate, getD-replicate}
+use lib.Seq.{sets}
+use Rattle.model.specs.Refusals.{Outcome, refused, granted, _>>_}
+use Rattle.model.specs.Serve.{made-fresh, fresh-words, computing}
+use Rattle.laws.proofs.Loops.{store-onward}
+use Rattle.laws.proofs.Pieces.{sets-whole}
+use Rattle.fresh.specs.declared.Prepared.{Prepared}
+use Rattle.fresh.specs.declared.Prepared.the-variants.{Ready, Refused}
+use Rattle.fresh.specs.Prepared.{answer-of, words-after, Prepares}
+
+fresh-words-are : set (replicate 8512 0) 2560 2147483648 ≡ fresh-words
+unfolding computing
+fresh-words-are = refl
+
+made-of-length : (w : List ℕ) → length w ≡ 8512 → made-fresh w ≡ granted fresh-words
+unfolding made-fresh _>>_
+made-of-length w h = simp (eq-eqb (length w) 8512 h)
+
+refused-of-length : (w : List ℕ) → (length w ≡ 8512 → ⊥) → made-fresh w ≡ refused 1
+unfolding made-fresh _>>_
+refused-of-length w h = simp (ne-eqb (length w) 8512 h)
+
+pub prepares : (w : List ℕ) {v : List ℕ} → length w ≡ 8512 → v ≡ replicate (length w) 0 → Prepares w (made-fresh w) Ready (set v 2560 2147483648)
+prepares w h e =
+    let m = made-of-length w h in
+    record {
+      answer = ap answer-of (sym m);
+      words = ap (λ l. set l 2560 2147483648) (e ∙ ap (λ n. replicate n 0) h) ∙ fresh-words-are ∙ ap (words-after w) (sym m);
+    }
+
+pub refuses : (w : List ℕ) → (length w ≡ 8512 → ⊥) → Prepares w (made-fresh w) (Refused 1) w
+refuses w h = let m = refused-of-length w h in record { answer = ap answer-of (sym m); words = ap (words-after w) (sym m) }
+
+-- one answer and one list of words meet the contract
+pub one-result : {w : List ℕ} {o : Outcome (List ℕ)} {r t : Prepared} {v u : List ℕ} → Prepares w o r v → Prepares w o t u → (r ≡ t) × (v ≡ u)
+one-result a b = (a .answer ∙ sym (b .answer), a .words ∙ sym (b .words))
+
+pub all-cleared : (l : List ℕ) → sets l (0 + 0) (replicate (length l) 0) ≡ replicate (length l) 0
+all-cleared l = sets-whole l (replicate (length l) 0) (length-replicate {A = ℕ} (length l) 0)
+
+pub cleared-onward : (n : ℕ) (out : List ℕ) (k : ℕ) {v : List ℕ} → k < n → sets out (0 + k) (drop k (replicate n 0)) ≡ v
+    → sets (set out k 0) (0 + (k + 1)) (drop (k + 1) (replicate n 0)) ≡ v
+cleared-onward n out k h inv =
+    ap (λ m. sets (set out m 0) (0 + (k + 1)) (drop (k + 1) (replicate n 0))) (sym (zero-add k))
+    ∙ store-onward 0 (replicate n 0) out k 0 (omega (arith, length-replicate {A = ℕ} n 0)) (sym (getD-replicate n k 0 0 h)) inv

@@ -1,0 +1,39 @@
+// Lent words made fresh tables: zeros, but for node 1.
+ghost use mathlib.Core.Path.{_≡_};
+ghost use lib.ListN.{length, replicate};
+ghost use Rattle.model.specs.Serve.{made-fresh};
+ghost use Rattle.fresh.specs.Prepared.{Prepares};
+
+const WORD_COUNT: usize = 8512;
+
+const FIRST_NODE_WORD: usize = 2560;
+
+// The first word of a directory to which no entry leads.
+const EMPTY_DIRECTORY: u32 = 2147483648;
+
+pub enum Prepared {
+    Ready,
+    Refused(u8),
+}
+
+fn clear_all(words: &mut [u32])
+    ensures { λ _. ⌜ now (words .exit) ≡ replicate (length (now (words .entry))) 0 ⌝ }
+{
+    let mut k = 0;
+    while k < words.len() {
+        words[k] = 0;
+        k += 1;
+    }
+}
+
+// Makes the words fresh tables; a slice of another length is refused and left as it was.
+pub fn fresh(words: &mut [u32]) -> Prepared
+    ensures { λ r. ⌜ Prepares (now (words .entry)) (made-fresh (now (words .entry))) r (now (words .exit)) ⌝ }
+{
+    if words.len() != WORD_COUNT {
+        return Prepared::Refused(1);
+    }
+    clear_all(words);
+    words[FIRST_NODE_WORD] = EMPTY_DIRECTORY;
+    Prepared::Ready
+}

@@ -1,0 +1,22 @@
+// Where a walk stopped, as the code has it: what the walk answers and the calls go on with.
+use rows::Block;
+
+// A directory's node and a name in it.
+pub struct Place {
+    pub directory: u16,
+    pub name: Block,
+}
+
+// How a walk ended: refused with 7, 8 or 9; at node 1 by `/`; or at an end entry, with the node there, 0 for an absence.
+pub enum Stop {
+    Refused(u8),
+    Root,
+    Entry { place: Place, node: u16 },
+}
+
+// A walk's end, and its elements: the places of the links that it followed, in the order met. Unused room is blank.
+pub struct Walk {
+    pub stop: Stop,
+    pub count: usize,
+    pub elements: [Place; 8],
+}

@@ -1,0 +1,4 @@
+pub mod Dropping
+pub mod Tests
+pub mod Towards
+pub mod Ways

@@ -1,0 +1,54 @@
+-- One hold tested as the model tests it, from what its row gives. Assumes nothing.
+use mathlib.Core.Path.{_≡_, sym, ap, _∙_}
+use mathlib.Core.Bool.{Bool, true, false, not}
+use mathlib.Core.List.{List}
+use mathlib.Core.Option.{some}
+use Prim.Native.Nat.{ℕ}
+use borrow.Author.Tests.{eq-eqb, ne-eqb}
+use lib.Dec.{eqb}
+use Rattle.model.specs.Tables.{Hold, Process, free-hold, user-of}
+use Rattle.model.specs.Sound.{is-end}
+use Rattle.model.specs.Holds.{on, inside, of-process}
+use Rattle.goals.specs.declared.Place.{Place}
+use Rattle.goals.specs.Goals.{place-at}
+use Rattle.holds.specs.declared.Scope.{Scope}
+use Rattle.holds.specs.declared.Scope.the-variants.{EndAt, Inside, Of}
+use Rattle.holds.specs.Scopes.{covers, of-another, in-the-way}
+
+module _ (h : Hold) where
+  -- a free row is nobody's hold
+  pub free-of-nobody : (processes : List Process) (user : ℕ) {k : ℕ} → k ≡ h .place .directory → k ≡ 0 → false ≡ of-another processes user h
+  unfolding of-another free-hold
+  free-of-nobody processes user e z = simp (eq-eqb (h .place .directory) 0 (sym e ∙ z))
+
+  -- the users decide for a used one
+  pub used-of-another : (processes : List Process) (user : ℕ) {k p v : ℕ} → k ≡ h .place .directory → (k ≡ 0 → ⊥) → p ≡ h .process
+      → v ≡ user-of processes p → not (eqb v user) ≡ of-another processes user h
+  unfolding of-another free-hold
+  used-of-another processes user e z f g =
+      simp (ne-eqb (h .place .directory) 0 (λ q. z (e ∙ q))) (ap (λ x. not (eqb x user)) (g ∙ ap (user-of processes) f))
+
+  pub not-an-end : (q : Place) {k : ℕ} → k ≡ h .role → (k ≡ 1 → ⊥) → false ≡ covers (EndAt q) h
+  unfolding covers is-end
+  not-an-end q e n = simp (ne-eqb (h .role) 1 (λ p. n (e ∙ p)))
+
+  pub end-there : (q : Place) {k : ℕ} {b : Bool} → k ≡ h .role → k ≡ 1 → b ≡ on (some (place-at q)) h → b ≡ covers (EndAt q) h
+  unfolding covers is-end
+  end-there q e p t = simp (eq-eqb (h .role) 1 (sym e ∙ p)) t
+
+  pub inside-there : {scope : Scope} {k d : ℕ} → scope ≡ Inside d → k ≡ h .place .directory → eqb k d ≡ covers scope h
+  unfolding covers inside
+  inside-there {d = d} s e = ap (λ x. eqb x d) e ∙ ap (λ x. covers x h) (sym s)
+
+  pub of-process-there : {scope : Scope} {k p : ℕ} → scope ≡ Of p → k ≡ h .process → eqb k p ≡ covers scope h
+  unfolding covers of-process
+  of-process-there {p = p} s e = ap (λ x. eqb x p) e ∙ ap (λ x. covers x h) (sym s)
+
+  module _ (processes : List Process) (scope : Scope) (user : ℕ) where
+    pub way-covered : {a b : Bool} → a ≡ covers scope h → a ≡ true → b ≡ of-another processes user h → b ≡ in-the-way processes scope user h
+    unfolding in-the-way
+    way-covered e t g = let k : covers scope h ≡ true = sym e ∙ t in simp k g
+
+    pub way-free : {a : Bool} → a ≡ covers scope h → a ≡ false → false ≡ in-the-way processes scope user h
+    unfolding in-the-way
+    way-free e t = let k : covers scope h ≡ false = sym e ∙ t in simp k

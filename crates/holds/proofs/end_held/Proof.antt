@@ -1,0 +1,28 @@
+-- `holds::end_held` meets its contract: other users' holds in the scope of the end. Assumes nothing.
+use borrow.Author.Needs.{needs}
+use Rattle.model.specs.Words.{unpack}
+use Rattle.goals.specs.Goals.{goal-of}
+use Rattle.holds.proofs.Ways.{end-held-is}
+use Rattle.holds.proofs.end_held.Statement.{statement}
+use Rattle.holds.proofs.end_held.Tie as tie
+
+user-of-process-requires : tie.Need-user-of-process-requires
+user-of-process-requires c κs = search needs
+
+end-scope-requires : tie.Need-end-scope-requires
+end-scope-requires c κs = search needs
+
+others-hold-requires : tie.Need-others-hold-requires
+others-hold-requires c κs = (c .before .before .before .pre .0, c .end-scope .ensures .named)
+
+returns : tie.Need-returns
+returns c = end-held-is (unpack (c .before .before .before .before .args .words .now)) (c .before .before .before .before .args .process) (goal-of (c .before .before .before .before .args .walk)) (c .before .before .user-of-process .ensures) (c .others-hold .ensures) (c .before .end-scope .ensures)
+
+pub end-held-spec : {M : Type 1} → statement M
+end-held-spec =
+    tie.close
+    (tie.spec
+    user-of-process-requires
+    end-scope-requires
+    others-hold-requires
+    returns)

@@ -1,0 +1,102 @@
+// The entries found by directory and name without a scan: chains of rows by bucket in two arrays that the caller lends. The index is stale
+// after a write to the entries.
+ghost use mathlib.Core.Path.{_≡_};
+ghost use mathlib.Core.Bool.{true};
+ghost use Prim.Native.Nat.{_<_};
+ghost use lib.ListN.{replicate};
+ghost use Rattle.model.specs.Sound.{entries-distinct};
+ghost use Rattle.model.specs.Tables.{lookup};
+ghost use Rattle.model.specs.Words.{unpack};
+ghost use Rattle.rows.specs.Blocks.{Named, place-of};
+ghost use Rattle.rows.specs.Stands.{Stands};
+ghost use Rattle.index.specs.Buckets.{last-below};
+ghost use Rattle.index.specs.Indexed.{place-bucket, row-at, Chain-of, Indexed};
+use rows::Block;
+use rows::entry_directory;
+use rows::entry_name;
+use rows::entry_node;
+use search::entry_is_at;
+
+// Whether the used entries differ in directory and name; and where they do, their index.
+pub fn index_entries(words: &[u32], heads: &mut [u16; 1021], next: &mut [u16; 512]) -> bool
+    requires { ⌜ (Stands (now words)) × ((now heads ≡ replicate 1021 0) × (now next ≡ replicate 512 0)) ⌝ }
+    ensures { λ r. ⌜ (r ≡ entries-distinct (unpack (now (words .entry)))) × (r ≡ true → Indexed (now (words .entry)) (now (heads .exit)) (now (next .exit))) ⌝ }
+{
+    let mut row = 0;
+    while row < 512 {
+        let directory = entry_directory(words, row);
+        if directory != 0 {
+            let name = entry_name(words, row);
+            let bucket = bucket_of(directory, name);
+            let from = heads[bucket];
+            if last_at(words, next, from, directory, name, row) != 0 {
+                return false;
+            }
+            next[row] = from;
+            heads[bucket] = (row + 1) as u16;
+        }
+        row += 1;
+    }
+    true
+}
+
+// The node that the entry at a place leads to, 0 for an absence.
+pub fn lookup(
+    words: &[u32],
+    heads: &[u16; 1021],
+    next: &[u16; 512],
+    directory: u16,
+    name: Block,
+) -> u16
+    requires { ⌜ (Indexed (now words) (now heads) (now next)) × (Named name) ⌝ }
+    ensures { λ r. ⌜ r ≡ lookup (unpack (now (words .entry)) .entries) (place-of directory name) ⌝ }
+{
+    if directory == 0 {
+        return 0;
+    }
+    let bucket = bucket_of(directory, name);
+    let found = last_at(words, next, heads[bucket], directory, name, 512);
+    if found == 0 {
+        return 0;
+    }
+    entry_node(words, found - 1)
+}
+
+fn bucket_of(directory: u16, name: Block) -> usize
+    ensures { λ r. ⌜ (r ≡ place-bucket directory name) × (r < 1021) ⌝ }
+{
+    let sum = directory as u64 * 577
+        + name.first as u64 * 211
+        + name.second as u64 * 863
+        + name.third as u64 * 389
+        + name.fourth as u64 * 727;
+    (sum % 1021) as usize
+}
+
+fn wide(x: u16) -> usize
+    ensures { λ r. ⌜ r ≡ x ⌝ }
+{
+    x as usize
+}
+
+// One more than the last row below `limit` whose entry is at the place, along its chain; 0 for none.
+fn last_at(
+    words: &[u32],
+    next: &[u16; 512],
+    from: u16,
+    directory: u16,
+    name: Block,
+    limit: usize,
+) -> usize
+    requires { ⌜ Chain-of (now words) (now next) from directory name limit ⌝ }
+    ensures { λ r. ⌜ r ≡ last-below (row-at (now (words .entry)) (place-of directory name)) limit ⌝ }
+{
+    let mut found = wide(from);
+    while found != 0 {
+        if entry_is_at(words, found - 1, directory, name) {
+            return found;
+        }
+        found = wide(next[found - 1]);
+    }
+    0
+}

@@ -1,0 +1,237 @@
+// Holds taken over the lent words: planned before anything is written, and fork's copies. Each is what the model's definition of that name gives.
+ghost use mathlib.Core.Logic.{_≢_};
+ghost use mathlib.Core.Path.{_≡_};
+ghost use Prim.Native.Nat.{_≤_, _<_};
+ghost use Rattle.model.specs.Lists.{any, count, put};
+ghost use Rattle.model.specs.Tables.{free-hold};
+ghost use Rattle.model.specs.Sound.{same-hold};
+ghost use Rattle.model.specs.Holds.{of-process, no-room, add-holds, copies};
+ghost use Rattle.model.specs.Words.{unpack};
+ghost use Rattle.rows.specs.Blocks.{Named};
+ghost use Rattle.rows.specs.Rows.{hold-of};
+ghost use Rattle.rows.specs.Stands.{Stands, Becomes, with-holds};
+ghost use Rattle.goals.specs.Goals.{Walk-named};
+ghost use Rattle.plans.specs.Plans.{Fine, Planned, planned-holds, Wished, Walk-used, Plan-for, Gathered, planned-row, copied-at};
+use edits::set_hold;
+use goals::Stop;
+use goals::Walk;
+use rows::Block;
+use rows::HoldRow;
+use rows::hold_directory;
+use rows::hold_name;
+use rows::hold_process;
+use rows::hold_role;
+use rows::same_blocks;
+use search::free_hold_row;
+use search::free_hold_rows;
+use search::has_hold;
+
+// Holds to be taken, in their order. Unused room is blank.
+pub struct Plan {
+    pub count: usize,
+    pub rows: [HoldRow; 9],
+}
+
+fn same_holds(a: HoldRow, b: HoldRow) -> bool
+    requires { ⌜ (Named (a .name)) × (Named (b .name)) ⌝ }
+    ensures { λ r. ⌜ r ≡ same-hold (hold-of a) (hold-of b) ⌝ }
+{
+    if a.process != b.process {
+        return false;
+    }
+    if a.role != b.role {
+        return false;
+    }
+    if a.directory != b.directory {
+        return false;
+    }
+    same_blocks(a.name, b.name)
+}
+
+fn row_of(plan: Plan, i: usize) -> HoldRow
+    requires { ⌜ (Planned plan) × (i < plan .count) ⌝ }
+    ensures { λ r. ⌜ r ≡ planned-row plan i ⌝ }
+{
+    let rows = plan.rows;
+    rows[i]
+}
+
+fn is_planned(plan: Plan, h: HoldRow) -> bool
+    requires { ⌜ (Planned plan) × (Named (h .name)) ⌝ }
+    ensures { λ r. ⌜ r ≡ any (same-hold (hold-of h)) (planned-holds plan) ⌝ }
+{
+    let n = plan.count;
+    let mut i = 0;
+    while i < n {
+        if same_holds(h, row_of(plan, i)) {
+            return true;
+        }
+        i += 1;
+    }
+    false
+}
+
+// The plan with one hold more, where it is lacking.
+fn wish(words: &[u32], plan: Plan, h: HoldRow) -> Plan
+    requires { ⌜ (Stands (now words)) × ((Planned plan) × ((plan .count < 9) × (Fine h))) ⌝ }
+    ensures { λ r. ⌜ Wished (unpack (now (words .entry)) .holds) plan h r ⌝ }
+{
+    if has_hold(words, h) {
+        return plan;
+    }
+    if is_planned(plan, h) {
+        return plan;
+    }
+    let n = plan.count;
+    let mut rows = plan.rows;
+    rows[n] = h;
+    Plan {
+        count: n + 1,
+        rows: rows,
+    }
+}
+
+fn plan_elements(words: &[u32], process: u16, walk: Walk) -> Plan
+    requires { ⌜ (Stands (now words)) × ((Walk-named walk) × (Walk-used walk)) ⌝ }
+    ensures { λ r. ⌜ Gathered (unpack (now (words .entry)) .holds) process (walk .count) (walk .elements) (walk .count) r ⌝ }
+{
+    let none = HoldRow {
+        directory: 0,
+        process: 0,
+        name: Block {
+            first: 0,
+            second: 0,
+            third: 0,
+            fourth: 0,
+        },
+        role: 0,
+    };
+    let mut plan = Plan {
+        count: 0,
+        rows: [none; 9],
+    };
+    let elements = walk.elements;
+    let n = walk.count;
+    let mut i = 0;
+    while i < n {
+        let q = elements[i];
+        let name = q.name;
+        plan = wish(
+            words,
+            plan,
+            HoldRow {
+                directory: q.directory,
+                process,
+                name,
+                role: 2,
+            },
+        );
+        i += 1;
+    }
+    plan
+}
+
+// The holds that the process lacks at the end of a walk.
+pub fn plan_holds(words: &[u32], process: u16, walk: Walk) -> Plan
+    requires { ⌜ (Stands (now words)) × ((Walk-named walk) × (Walk-used walk)) ⌝ }
+    ensures { λ r. ⌜ Plan-for (unpack (now (words .entry)) .holds) process walk r ⌝ }
+{
+    let plan = plan_elements(words, process, walk);
+    let stop = walk.stop;
+    match stop {
+        Stop::Refused(_) => plan,
+        Stop::Root => plan,
+        Stop::Entry { place, node: _ } => {
+            let name = place.name;
+            wish(
+                words,
+                plan,
+                HoldRow {
+                    directory: place.directory,
+                    process,
+                    name,
+                    role: 1,
+                },
+            )
+        }
+    }
+}
+
+pub fn lacks_room(words: &[u32], plan: Plan) -> bool
+    requires { ⌜ (Stands (now words)) × (Planned plan) ⌝ }
+    ensures { λ r. ⌜ r ≡ no-room (unpack (now (words .entry))) (planned-holds plan) ⌝ }
+{
+    let n = plan.count;
+    free_hold_rows(words) < n
+}
+
+fn add_hold(words: &mut [u32], h: HoldRow)
+    requires { ⌜ (Stands (now words)) × (Fine h) ⌝ }
+    ensures { λ _. ⌜ Becomes (now (words .exit)) (with-holds (unpack (now (words .entry))) (put free-hold (hold-of h) (unpack (now (words .entry)) .holds))) ⌝ }
+{
+    let row = free_hold_row(words);
+    if row < 256 {
+        set_hold(words, row, h);
+    }
+}
+
+pub fn add_planned(words: &mut [u32], plan: Plan)
+    requires { ⌜ (Stands (now words)) × (Planned plan) ⌝ }
+    ensures { λ _. ⌜ Becomes (now (words .exit)) (with-holds (unpack (now (words .entry))) (add-holds (planned-holds plan) (unpack (now (words .entry)) .holds))) ⌝ }
+{
+    let n = plan.count;
+    let mut i = 0;
+    while i < n {
+        add_hold(words, row_of(plan, i));
+        i += 1;
+    }
+}
+
+// FORK'S COPIES
+
+pub fn count_of_process(words: &[u32], process: u16) -> usize
+    requires { ⌜ Stands (now words) ⌝ }
+    ensures { λ r. ⌜ r ≡ count (of-process process) (unpack (now (words .entry)) .holds) ⌝ }
+{
+    let mut n: usize = 0;
+    let mut i = 0;
+    while i < 256 {
+        if hold_process(words, i) == process {
+            n += 1;
+        }
+        i += 1;
+    }
+    n
+}
+
+fn copy_row(words: &mut [u32], row: usize, parent: u16, child: u16)
+    requires { ⌜ (Stands (now words)) × ((row < 256) × (1 ≤ parent)) ⌝ }
+    ensures { λ _. ⌜ Becomes (now (words .exit)) (with-holds (unpack (now (words .entry))) (copied-at parent child row (unpack (now (words .entry)) .holds))) ⌝ }
+{
+    if hold_process(words, row) == parent {
+        let directory = hold_directory(words, row);
+        let name = hold_name(words, row);
+        let role = hold_role(words, row);
+        add_hold(
+            words,
+            HoldRow {
+                directory,
+                process: child,
+                name,
+                role,
+            },
+        );
+    }
+}
+
+// What is added goes to free rows and is the child's, so that it does not change what is still to be read.
+pub fn copy_holds(words: &mut [u32], parent: u16, child: u16)
+    requires { ⌜ (Stands (now words)) × ((1 ≤ parent) × (parent ≢ child)) ⌝ }
+    ensures { λ _. ⌜ Becomes (now (words .exit)) (with-holds (unpack (now (words .entry))) (add-holds (copies parent child (unpack (now (words .entry)) .holds)) (unpack (now (words .entry)) .holds))) ⌝ }
+{
+    let mut i = 0;
+    while i < 256 {
+        copy_row(words, i, parent, child);
+        i += 1;
+    }
+}

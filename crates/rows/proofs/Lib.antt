@@ -1,0 +1,5 @@
+pub mod Blocks
+pub mod Bytes
+pub mod Fields
+pub mod Parts
+pub mod Writes

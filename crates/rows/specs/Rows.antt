@@ -1,0 +1,33 @@
+-- A row as the code has it and as the model has it, and when the one is written as the other. Assumes nothing.
+use mathlib.Core.Path.{_≡_}
+use mathlib.Core.List.{List, [], _∷_}
+use Prim.Native.Nat.{ℕ, _+_, _*_}
+use Rattle.model.specs.Tables.{Entry, Hold}
+use Rattle.model.specs.Words.{pack-entry, unpack-entry, pack-hold, unpack-hold}
+use Rattle.rows.specs.declared.EntryRow.{EntryRow}
+use Rattle.rows.specs.declared.HoldRow.{HoldRow}
+use Rattle.rows.specs.Blocks.{place-of}
+
+unfoldable pub entry-of : EntryRow → Entry
+entry-of e = record { place = place-of (e .directory) (e .name); node = e .node }
+
+unfoldable pub hold-of : HoldRow → Hold
+hold-of h = record { place = place-of (h .directory) (h .name); process = h .process; role = h .role }
+
+-- the words that the code writes
+abbrev pub entry-words : EntryRow → List ℕ
+entry-words e =
+    (e .directory * 65536 + e .node) ∷ e .name .first ∷ e .name .second ∷ e .name .third ∷ e .name .fourth ∷ []
+
+abbrev pub hold-words : HoldRow → List ℕ
+hold-words h =
+    (h .directory * 65536 + h .process) ∷ h .name .first ∷ h .name .second ∷ h .name .third ∷ h .name .fourth ∷ (h .role * 1073741824) ∷ []
+
+-- they are the model's, and give the row back
+pub record Good-entry (e : EntryRow) : Type 0 where
+  pub words : pack-entry (entry-of e) ≡ entry-words e
+  pub fits : unpack-entry (pack-entry (entry-of e)) ≡ entry-of e
+
+pub record Good-hold (h : HoldRow) : Type 0 where
+  pub words : pack-hold (hold-of h) ≡ hold-words h
+  pub fits : unpack-hold (pack-hold (hold-of h)) ≡ hold-of h

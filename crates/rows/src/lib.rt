@@ -1,0 +1,285 @@
+// The lent words read by row and field. This is the only place, with `edits`, that knows where a word of the tables stands.
+ghost use mathlib.Core.Path.{_≡_};
+ghost use Prim.Native.Nat.{_+_, _*_, _/_, _%_, _≤_, _<_};
+ghost use lib.ListN.{length, getD, take, drop};
+ghost use Rattle.model.specs.Lists.{filled};
+ghost use Rattle.model.specs.Tables.{node-at};
+ghost use Rattle.model.specs.Words.{bytes, unpack};
+ghost use Rattle.rows.specs.Blocks.{block-of, same-block, word-from};
+ghost use Rattle.rows.specs.Stands.{Stands, entry-row, node-row, hold-row, process-row};
+
+// A name block: its four words.
+pub struct Block {
+    pub first: u32,
+    pub second: u32,
+    pub third: u32,
+    pub fourth: u32,
+}
+
+// An entry as it is written.
+pub struct EntryRow {
+    pub directory: u16,
+    pub node: u16,
+    pub name: Block,
+}
+
+// A hold as it is written.
+pub struct HoldRow {
+    pub directory: u16,
+    pub process: u16,
+    pub name: Block,
+    pub role: u8,
+}
+
+// A link's target: its bytes, filled up with zeros, and how many they are.
+pub struct Target {
+    pub length: usize,
+    pub bytes: [u8; 64],
+}
+
+pub fn upper_half(word: u32) -> u16
+    ensures { λ r. ⌜ r ≡ word / 65536 ⌝ }
+{
+    (word / 65536) as u16
+}
+
+pub fn lower_half(word: u32) -> u16
+    ensures { λ r. ⌜ r ≡ word % 65536 ⌝ }
+{
+    (word % 65536) as u16
+}
+
+pub fn top_bits(word: u32) -> u8
+    ensures { λ r. ⌜ r ≡ word / 1073741824 ⌝ }
+{
+    (word / 1073741824) as u8
+}
+
+pub fn count_bits(word: u32) -> u16
+    ensures { λ r. ⌜ r ≡ word / 8192 % 1024 ⌝ }
+{
+    (word / 8192 % 1024) as u16
+}
+
+pub fn length_bits(word: u32) -> usize
+    ensures { λ r. ⌜ r ≡ word / 8388608 % 128 ⌝ }
+{
+    (word / 8388608 % 128) as usize
+}
+
+// NAMES
+
+pub fn block_at(words: &[u32], at: usize) -> Block
+    requires { ⌜ at + 4 ≤ length (now words) ⌝ }
+    ensures { λ r. ⌜ r ≡ record { first = getD (now (words .entry)) at 0; second = getD (now (words .entry)) (at + 1) 0; third = getD (now (words .entry)) (at + 2) 0; fourth = getD (now (words .entry)) (at + 3) 0 } ⌝ }
+{
+    Block {
+        first: words[at],
+        second: words[at + 1],
+        third: words[at + 2],
+        fourth: words[at + 3],
+    }
+}
+
+fn join_bytes(a: u8, b: u8, c: u8, d: u8) -> u32
+    ensures { λ r. ⌜ r ≡ ((a * 256 + b) * 256 + c) * 256 + d ⌝ }
+{
+    a as u32 * 16777216 + b as u32 * 65536 + c as u32 * 256 + d as u32
+}
+
+// Byte k of the `count` bytes from `from` on, 0 behind them.
+fn byte_or_zero(path: &[u8], from: usize, count: usize, k: usize) -> u8
+    requires { ⌜ from + count ≤ length (now path) ⌝ }
+    ensures { λ r. ⌜ r ≡ getD (take count (drop from (now (path .entry)))) k 0 ⌝ }
+{
+    if k < count { path[from + k] } else { 0 }
+}
+
+// Four of these bytes as a word, the first the most significant.
+pub fn four_bytes(path: &[u8], from: usize, count: usize, k: usize) -> u32
+    requires { ⌜ (from + count ≤ length (now path)) × (k < 64) ⌝ }
+    ensures { λ r. ⌜ r ≡ word-from (take count (drop from (now (path .entry)))) k ⌝ }
+{
+    join_bytes(
+        byte_or_zero(path, from, count, k),
+        byte_or_zero(path, from, count, k + 1),
+        byte_or_zero(path, from, count, k + 2),
+        byte_or_zero(path, from, count, k + 3),
+    )
+}
+
+// The block of the name that stands in the path: `count` bytes from `from` on.
+pub fn block_from(path: &[u8], from: usize, count: usize) -> Block
+    requires { ⌜ (from + count ≤ length (now path)) × (count ≤ 14) ⌝ }
+    ensures { λ r. ⌜ r ≡ block-of (take count (drop from (now (path .entry)))) ⌝ }
+{
+    Block {
+        first: join_bytes(
+            count as u8,
+            byte_or_zero(path, from, count, 0),
+            byte_or_zero(path, from, count, 1),
+            byte_or_zero(path, from, count, 2),
+        ),
+        second: four_bytes(path, from, count, 3),
+        third: four_bytes(path, from, count, 7),
+        fourth: four_bytes(path, from, count, 11),
+    }
+}
+
+pub fn same_blocks(a: Block, b: Block) -> bool
+    ensures { λ r. ⌜ r ≡ same-block a b ⌝ }
+{
+    if a.first != b.first {
+        return false;
+    }
+    if a.second != b.second {
+        return false;
+    }
+    if a.third != b.third {
+        return false;
+    }
+    a.fourth == b.fourth
+}
+
+// ENTRIES
+
+pub fn entry_directory(words: &[u32], row: usize) -> u16
+    requires { ⌜ (Stands (now words)) × (row < 512) ⌝ }
+    ensures { λ r. ⌜ r ≡ entry-row (now (words .entry)) row .place .directory ⌝ }
+{
+    upper_half(words[row * 5])
+}
+
+pub fn entry_node(words: &[u32], row: usize) -> u16
+    requires { ⌜ (Stands (now words)) × (row < 512) ⌝ }
+    ensures { λ r. ⌜ r ≡ entry-row (now (words .entry)) row .node ⌝ }
+{
+    lower_half(words[row * 5])
+}
+
+pub fn entry_name(words: &[u32], row: usize) -> Block
+    requires { ⌜ (Stands (now words)) × (row < 512) ⌝ }
+    ensures { λ r. ⌜ r ≡ block-of (entry-row (now (words .entry)) row .place .name) ⌝ }
+{
+    block_at(words, row * 5 + 1)
+}
+
+// NODES, by row; node n is row n - 1
+
+pub fn kind_in(words: &[u32], row: usize) -> u8
+    requires { ⌜ (Stands (now words)) × (row < 256) ⌝ }
+    ensures { λ r. ⌜ r ≡ node-row (now (words .entry)) row .kind ⌝ }
+{
+    top_bits(words[2560 + row * 17])
+}
+
+pub fn count_in(words: &[u32], row: usize) -> u16
+    requires { ⌜ (Stands (now words)) × (row < 256) ⌝ }
+    ensures { λ r. ⌜ r ≡ node-row (now (words .entry)) row .count ⌝ }
+{
+    count_bits(words[2560 + row * 17])
+}
+
+pub fn target_length_in(words: &[u32], row: usize) -> usize
+    requires { ⌜ (Stands (now words)) × (row < 256) ⌝ }
+    ensures { λ r. ⌜ r ≡ length (node-row (now (words .entry)) row .target) ⌝ }
+{
+    length_bits(words[2560 + row * 17])
+}
+
+fn byte_of(word: u32, place: u32) -> u8
+    requires { ⌜ 0 < place ⌝ }
+    ensures { λ r. ⌜ r ≡ word / place % 256 ⌝ }
+{
+    (word / place % 256) as u8
+}
+
+// The bytes of the 16 words from `at` on.
+fn bytes_at(words: &[u32], at: usize) -> [u8; 64]
+    requires { ⌜ at + 16 ≤ length (now words) ⌝ }
+    ensures { λ r. ⌜ r ≡ bytes (take 16 (drop at (now (words .entry)))) ⌝ }
+{
+    let mut out = [0u8; 64];
+    let mut k = 0;
+    while k < 16 {
+        let word = words[at + k];
+        out[k * 4] = byte_of(word, 16777216);
+        out[k * 4 + 1] = byte_of(word, 65536);
+        out[k * 4 + 2] = byte_of(word, 256);
+        out[k * 4 + 3] = byte_of(word, 1);
+        k += 1;
+    }
+    out
+}
+
+pub fn target_in(words: &[u32], row: usize) -> Target
+    requires { ⌜ (Stands (now words)) × (row < 256) ⌝ }
+    ensures { λ r. ⌜ r ≡ record { length = length (node-row (now (words .entry)) row .target); bytes = filled 64 (node-row (now (words .entry)) row .target) } ⌝ }
+{
+    Target {
+        length: target_length_in(words, row),
+        bytes: bytes_at(words, 2560 + row * 17 + 1),
+    }
+}
+
+// NODES, by number; no node has another number
+
+pub fn node_kind(words: &[u32], node: u16) -> u8
+    requires { ⌜ Stands (now words) ⌝ }
+    ensures { λ r. ⌜ r ≡ node-at (unpack (now (words .entry)) .nodes) node .kind ⌝ }
+{
+    let n = node as usize;
+    if n == 0 {
+        return 0;
+    }
+    if n > 256 {
+        return 0;
+    }
+    kind_in(words, n - 1)
+}
+
+// HOLDS
+
+pub fn hold_directory(words: &[u32], row: usize) -> u16
+    requires { ⌜ (Stands (now words)) × (row < 256) ⌝ }
+    ensures { λ r. ⌜ r ≡ hold-row (now (words .entry)) row .place .directory ⌝ }
+{
+    upper_half(words[6912 + row * 6])
+}
+
+pub fn hold_process(words: &[u32], row: usize) -> u16
+    requires { ⌜ (Stands (now words)) × (row < 256) ⌝ }
+    ensures { λ r. ⌜ r ≡ hold-row (now (words .entry)) row .process ⌝ }
+{
+    lower_half(words[6912 + row * 6])
+}
+
+pub fn hold_name(words: &[u32], row: usize) -> Block
+    requires { ⌜ (Stands (now words)) × (row < 256) ⌝ }
+    ensures { λ r. ⌜ r ≡ block-of (hold-row (now (words .entry)) row .place .name) ⌝ }
+{
+    block_at(words, 6912 + row * 6 + 1)
+}
+
+pub fn hold_role(words: &[u32], row: usize) -> u8
+    requires { ⌜ (Stands (now words)) × (row < 256) ⌝ }
+    ensures { λ r. ⌜ r ≡ hold-row (now (words .entry)) row .role ⌝ }
+{
+    top_bits(words[6912 + row * 6 + 5])
+}
+
+// PROCESSES
+
+pub fn process_number(words: &[u32], row: usize) -> u16
+    requires { ⌜ (Stands (now words)) × (row < 64) ⌝ }
+    ensures { λ r. ⌜ r ≡ process-row (now (words .entry)) row .number ⌝ }
+{
+    upper_half(words[8448 + row])
+}
+
+pub fn process_user(words: &[u32], row: usize) -> u16
+    requires { ⌜ (Stands (now words)) × (row < 64) ⌝ }
+    ensures { λ r. ⌜ r ≡ process-row (now (words .entry)) row .user ⌝ }
+{
+    lower_half(words[8448 + row])
+}

@@ -1,0 +1,14 @@
+-- `search::is_listed` meets its contract: the row found is one of the 64. Assumes nothing.
+use borrow.Author.Needs.{needs}
+use Rattle.search.proofs.Tests.{listed-by-row}
+use Rattle.search.proofs.is_listed.Statement.{statement}
+use Rattle.search.proofs.is_listed.Tie as tie
+
+find-process-requires : tie.Need-find-process-requires
+find-process-requires c κs = search needs
+
+returns : tie.Need-returns
+returns c = listed-by-row (c .before .before .args .words .now) (c .before .before .args .process) (c .find-process .ensures)
+
+pub is-listed-spec : {M : Type 1} → statement M
+is-listed-spec = tie.close (tie.spec find-process-requires returns)

@@ -1,0 +1,101 @@
+-- How a walk over sound tables ends: by `/` at node 1 only, and with no more elements than it had links to follow. Assumes nothing.
+use mathlib.Core.Path.{_≡_, refl, sym, _∙_}
+use mathlib.Core.Bool.{Bool, true, false}
+use mathlib.Core.Option.{none}
+use mathlib.Core.List.{List, [], _∷_, _++_}
+use Prim.Native.Nat.{ℕ, zero, suc, _≤_}
+use native.Mathlib.Omega.{arith}
+use lib.Dec.{eqb}
+use lib.ListN.{length}
+use Rattle.model.specs.Refusals.{Outcome, refused, granted}
+use Rattle.model.specs.Paths.{Name, slash, names, names-behind, parts, absolute}
+use Rattle.model.specs.Tables.{Place, Entry, Node}
+use Rattle.model.specs.Walk.{Goal, Found, nothing, file, directory, link, found, here, after-link, start, follow, turn, walk-names, walk-within}
+use Rattle.paths.proofs.Parts.{parts-split}
+use Rattle.walk.specs.Trails.{jump-within}
+use Rattle.walk.proofs.Found.{Walkable, found-target}
+use Rattle.walk.proofs.Legs.{within-names}
+
+pub record Ended (k : ℕ) (g : Goal) : Type 0 where
+  pub root : g .end ≡ none → g .node ≡ 1
+  pub few : length (g .elements) ≤ k
+
+unfoldable pub Ends : ℕ → Outcome Goal → Type 0
+Ends k (refused n) = Unit {0}
+Ends k (granted g) = Ended k g
+
+-- a target that has bytes but no names is `/`
+no-names-from-root : (d : ℕ) (s : List ℕ) → 1 ≤ length s → names s ≡ [] → start d s ≡ 1
+unfolding names start absolute
+no-names-from-root d [] h e = absurd (omega arith)
+no-names-from-root d (b ∷ s) h e = go (eqb b slash) refl e
+  where
+    go : (c : Bool) → eqb b slash ≡ c → _≡_ {A = List Name} (elim c as (λ _. List Name) [ true ↦ names-behind s | false ↦ parts (b ∷ s) ]) [] →
+        _≡_ {A = ℕ} (elim c as (λ _. ℕ) [ true ↦ 1 | false ↦ d ]) 1
+    go true q f = refl
+    go false q f = let some-part = sym (parts-split (b ∷ s)) ∙ f in let z : _≡_ {A = ℕ} 0 1 = cc in absurd (omega arith)
+
+nothing-joined : (xs ys : List Name) → xs ++ ys ≡ [] → xs ≡ []
+nothing-joined [] ys e = refl
+nothing-joined (x ∷ xs) ys e = let z : _≡_ {A = ℕ} 0 1 = cc in absurd (omega arith)
+
+module _ (entries : List Entry) (nodes : List Node) (walkable : Walkable entries nodes) where
+  after-link-ends : (k : ℕ) (q : Place) (o : Outcome Goal) → Ends k o → Ends (suc k) (after-link q o)
+  unfolding Ends after-link
+  after-link-ends k q (refused n) e = tt
+  after-link-ends k q (granted g) e = record { root = e .root; few = let h = e .few in omega arith }
+
+  here-ends : (k : ℕ) (q : Place) (n : ℕ) → Ends k (here q n)
+  unfolding Ends here
+  here-ends k q n = record { root = λ e. let z : _≡_ {A = ℕ} 0 1 = cc in absurd (omega arith); few = omega arith }
+
+  -- jumps with k links left
+  abbrev Jumps-end : Bool → ℕ → Type 0
+  Jumps-end last k = (q : Place) (d : ℕ) (ns : List Name) → (ns ≡ [] → d ≡ 1) → Ends k (after-link q (jump-within entries nodes last k d ns))
+
+  module _ (last : Bool) (k : ℕ) (jumps : Jumps-end last k) where
+    follow-ends : (q : Place) (n : ℕ) (target : List ℕ) (rest : List Name) → found entries nodes q ≡ link n target →
+        Ends k (follow (jump-within entries nodes last k) q target rest)
+    unfolding follow
+    follow-ends q n target rest e =
+        jumps q (start (q .directory) target) (names target ++ rest)
+        (λ f. no-names-from-root (q .directory) target (found-target entries nodes walkable q n target e .long) (nothing-joined (names target) rest f))
+
+    turn-ends : (on : ℕ → Outcome Goal) (q : Place) (f : Found) (rest : List Name) → found entries nodes q ≡ f →
+        ((n : ℕ) → (rest ≡ [] → ⊥) → Ends k (on n)) → Ends k (turn (jump-within entries nodes last k) on last q f rest)
+    unfolding turn Ends
+    turn-ends on q nothing [] e h = here-ends k q 0
+    turn-ends on q nothing (next ∷ rest) e h = tt
+    turn-ends on q (file n) [] e h = here-ends k q n
+    turn-ends on q (file n) (next ∷ rest) e h = tt
+    turn-ends on q (directory n) [] e h = here-ends k q n
+    turn-ends on q (directory n) (next ∷ rest) e h = h n (λ f. let z : _≡_ {A = ℕ} 0 1 = cc in omega arith)
+    turn-ends on q (link n target) (next ∷ rest) e h = follow-ends q n target (next ∷ rest) e
+    turn-ends on q (link n target) [] e h = last-link last
+      where
+        last-link : (l : Bool) → Ends k (turn (jump-within entries nodes last k) on l q (link n target) [])
+        last-link true = follow-ends q n target [] e
+        last-link false = here-ends k q n
+
+    names-end : (d : ℕ) (ns : List Name) → (ns ≡ [] → d ≡ 1) → Ends k (walk-names entries nodes last (jump-within entries nodes last k) d ns)
+    unfolding walk-names Ends
+    names-end d [] r = record { root = λ e. r refl; few = omega arith }
+    names-end d (n ∷ ns) r =
+        turn-ends (λ x. walk-names entries nodes last (jump-within entries nodes last k) x ns) (record { directory = d; name = n })
+        (found entries nodes (record { directory = d; name = n })) ns refl (λ x m. names-end x ns (λ e. absurd (m e)))
+
+  jumps-end : (last : Bool) (k : ℕ) → Jumps-end last k
+  unfolding jump-within after-link Ends
+  jumps-end last zero q d ns r = tt
+  jumps-end last (suc k) q d ns r =
+      after-link-ends k q (walk-within entries nodes last k d ns)
+      (rw (within-names entries nodes last k d ns) (names-end last k (jumps-end last k) d ns r))
+
+  -- a walk with k links to follow, from node 1 where it has no names
+  pub walk-ends : (last : Bool) (k d : ℕ) (ns : List Name) → (ns ≡ [] → d ≡ 1) → Ends k (walk-within entries nodes last k d ns)
+  walk-ends last k d ns r = rw (within-names entries nodes last k d ns) (names-end last k (jumps-end last k) d ns r)
+
+  -- a link followed alone
+  pub link-ends : (last : Bool) (k : ℕ) (q : Place) (n : ℕ) (target : List ℕ) → found entries nodes q ≡ link n target →
+      Ends k (follow (jump-within entries nodes last k) q target [])
+  link-ends last k q n target e = follow-ends last k (jumps-end last k) q n target [] e

@@ -1,0 +1,125 @@
+-- A walk in two legs: to walk names and then more of them is to walk the first, a link at their end followed too, and to go on from the node
+-- that was reached with the links that are left. Assumes nothing.
+use mathlib.Core.Path.{_≡_, refl, sym, ap, _∙_}
+use mathlib.Core.Bool.{Bool, true, false}
+use mathlib.Core.Option.{none}
+use mathlib.Core.List.{List, [], _∷_, _++_, append-assoc}
+use Prim.Native.Nat.{ℕ, zero, suc, _-_}
+use native.Mathlib.Omega.{arith}
+use borrow.Author.Tests.{eqb-true, eq-eqb, ne-eqb}
+use lib.Dec.{eqb}
+use lib.ListN.{length}
+use Rattle.model.specs.Refusals.{Outcome, refused, granted, _>>=_}
+use Rattle.model.specs.Paths.{Name, names}
+use Rattle.model.specs.Tables.{Place, Entry, Node, a-directory, node-at, is-directory}
+use Rattle.model.specs.Walk.{Goal, Found, nothing, file, directory, link, found, here, after-link, start, follow, turn, walk-names, walk-within}
+use Rattle.invariants.proofs.Walks.{found-directory}
+use Rattle.walk.specs.Trails.{jump-within, entered}
+use Rattle.walk.proofs.Found.{Walkable, start-directory, found-file}
+
+-- the links of a first leg, before all that came after it
+unfoldable pub prefixed : List Place → Outcome Goal → Outcome Goal
+prefixed [] o = o
+prefixed (q ∷ qs) o = after-link q (prefixed qs o)
+
+module _ (entries : List Entry) (nodes : List Node) where
+  -- the second leg: k links were left before the first
+  unfoldable pub onward : Bool → ℕ → List Name → Goal → Outcome Goal
+  onward last k rest g = prefixed (g .elements) (entered entries nodes last (k - length (g .elements)) (g .node) rest)
+
+  -- ENTERING A NODE, by its kind
+
+  pub enter-nothing : (last : Bool) (k n : ℕ) (rest : List Name) → node-at nodes n .kind ≡ 0 → entered entries nodes last k n rest ≡ refused 8
+  unfolding entered
+  enter-nothing last k n rest e = simp (eq-eqb (node-at nodes n .kind) 0 e, entered)
+
+  pub enter-other : (last : Bool) (k n : ℕ) (rest : List Name) → (node-at nodes n .kind ≡ 0 → ⊥) → (node-at nodes n .kind ≡ a-directory → ⊥) →
+      entered entries nodes last k n rest ≡ refused 9
+  unfolding entered
+  enter-other last k n rest f g = simp (ne-eqb (node-at nodes n .kind) 0 f, ne-eqb (node-at nodes n .kind) a-directory g, entered)
+
+  pub enter-directory : (last : Bool) (k n : ℕ) (rest : List Name) → is-directory nodes n ≡ true →
+      entered entries nodes last k n rest ≡ walk-within entries nodes last k n rest
+  unfolding entered is-directory
+  enter-directory last k n rest e =
+      let used : eqb (node-at nodes n .kind) 0 ≡ false = rw (eqb-true (node-at nodes n .kind) a-directory e) in
+      simp (used, e, entered)
+
+  -- WALKS AND JUMPS
+
+  pub within-names : (last : Bool) (k d : ℕ) (ns : List Name) →
+      walk-within entries nodes last k d ns ≡ walk-names entries nodes last (jump-within entries nodes last k) d ns
+  unfolding walk-within jump-within
+  within-names last zero d ns = refl
+  within-names last (suc k) d ns = refl
+
+  after-link-onward : (last : Bool) (q : Place) (k : ℕ) (rest : List Name) (o : Outcome Goal) →
+      after-link q (o >>= onward last k rest) ≡ (after-link q o >>= onward last (suc k) rest)
+  unfolding after-link _>>=_ onward prefixed
+  after-link-onward last q k rest (refused n) = refl
+  after-link-onward last q k rest (granted g) =
+      let e : k - length (g .elements) ≡ suc k - suc (length (g .elements)) = omega arith in
+      ap (λ (j : ℕ). after-link q (prefixed (g .elements) (entered entries nodes last j (g .node) rest))) e
+
+  -- THE LAW
+
+  -- of jumps with k links left, met at any place
+  abbrev Jumps : ℕ → Type 0
+  Jumps k =
+      (last : Bool) (q : Place) (s : ℕ) (ns : List Name) (m : Name) (rest : List Name) → is-directory nodes s ≡ true →
+      after-link q (jump-within entries nodes last k s (ns ++ (m ∷ rest)))
+      ≡ (after-link q (jump-within entries nodes true k s ns) >>= onward last k (m ∷ rest))
+
+  module _ (walkable : Walkable entries nodes) (last : Bool) (k : ℕ) (jumps : Jumps k) (m : Name) (rest : List Name) where
+    pub follow-legs : (q : Place) (target : List ℕ) (ns : List Name) → is-directory nodes (q .directory) ≡ true →
+        follow (jump-within entries nodes last k) q target (ns ++ (m ∷ rest))
+        ≡ (follow (jump-within entries nodes true k) q target ns >>= onward last k (m ∷ rest))
+    unfolding follow
+    follow-legs q target ns d =
+        ap (λ (l : List Name). after-link q (jump-within entries nodes last k (start (q .directory) target) l)) (sym (append-assoc (names target) ns (m ∷ rest)))
+        ∙ jumps last q (start (q .directory) target) (names target ++ ns) m rest (start-directory nodes (q .directory) target (walkable .top) d)
+
+    reached-directory : (n : ℕ) → is-directory nodes n ≡ true →
+        walk-names entries nodes last (jump-within entries nodes last k) n (m ∷ rest)
+        ≡ onward last k (m ∷ rest) (record { end = none; node = n; elements = [] })
+    unfolding onward prefixed
+    reached-directory n d =
+        let e : k ≡ k - 0 = omega arith in
+        sym (within-names last k n (m ∷ rest)) ∙ sym (enter-directory last k n (m ∷ rest) d)
+        ∙ ap (λ (j : ℕ). entered entries nodes last j n (m ∷ rest)) e
+
+    turn-legs : (q : Place) (f : Found) (ns : List Name) → found entries nodes q ≡ f → is-directory nodes (q .directory) ≡ true →
+        ((n : ℕ) → is-directory nodes n ≡ true →
+        walk-names entries nodes last (jump-within entries nodes last k) n (ns ++ (m ∷ rest))
+        ≡ (walk-names entries nodes true (jump-within entries nodes true k) n ns >>= onward last k (m ∷ rest))) →
+        turn (jump-within entries nodes last k) (λ n. walk-names entries nodes last (jump-within entries nodes last k) n (ns ++ (m ∷ rest))) last q f (ns ++ (m ∷ rest))
+        ≡ (turn (jump-within entries nodes true k) (λ n. walk-names entries nodes true (jump-within entries nodes true k) n ns) true q f ns >>= onward last k (m ∷ rest))
+    unfolding turn _>>=_ here onward prefixed entered node-at
+    turn-legs q nothing [] e d h = refl
+    turn-legs q nothing (n ∷ ns) e d h = refl
+    turn-legs q (file n) [] e d h =
+        let kind = found-file entries nodes walkable q n e in
+        sym (enter-other last (k - 0) n (m ∷ rest) (λ z. omega arith) (λ z. omega arith))
+    turn-legs q (file x) (n ∷ ns) e d h = refl
+    turn-legs q (directory n) [] e d h = reached-directory n (found-directory entries nodes q n e .kind)
+    turn-legs q (directory x) (n ∷ ns) e d h = h x (found-directory entries nodes q x e .kind)
+    turn-legs q (link n target) [] e d h = follow-legs q target [] d
+    turn-legs q (link x target) (n ∷ ns) e d h = follow-legs q target (n ∷ ns) d
+
+    names-legs : (d : ℕ) (ns : List Name) → is-directory nodes d ≡ true →
+        walk-names entries nodes last (jump-within entries nodes last k) d (ns ++ (m ∷ rest))
+        ≡ (walk-names entries nodes true (jump-within entries nodes true k) d ns >>= onward last k (m ∷ rest))
+    unfolding walk-names _>>=_
+    names-legs d [] e = reached-directory d e
+    names-legs d (n ∷ ns) e =
+        let q : Place = record { directory = d; name = n } in
+        turn-legs q (found entries nodes q) ns refl e (λ x f. names-legs x ns f)
+
+  pub jump-legs : Walkable entries nodes → (k : ℕ) → Jumps k
+  unfolding jump-within after-link _>>=_
+  jump-legs walkable zero last q s ns m rest e = refl
+  jump-legs walkable (suc k) last q s ns m rest e =
+      ap (after-link q)
+      (within-names last k s (ns ++ (m ∷ rest)) ∙ names-legs walkable last k (jump-legs walkable k) m rest s ns e
+      ∙ ap (λ (o : Outcome Goal). o >>= onward last k (m ∷ rest)) (sym (within-names true k s ns)))
+      ∙ after-link-onward last q k (m ∷ rest) (walk-within entries nodes true k s ns)
