@@ -195,7 +195,7 @@ fn byte_of(word: u32, place: u32) -> u8
 }
 
 // The bytes of the 16 words from `at` on.
-fn bytes_at(words: &[u32], at: usize) -> [u8; 64]
+pub fn bytes_at(words: &[u32], at: usize) -> [u8; 64]
     requires { ⌜ at + 16 ≤ length (now words) ⌝ }
     ensures { λ r. ⌜ r ≡ bytes (take 16 (drop at (now (words .entry)))) ⌝ }
 {
@@ -236,6 +236,20 @@ pub fn node_kind(words: &[u32], node: u16) -> u8
         return 0;
     }
     kind_in(words, n - 1)
+}
+
+pub fn node_count(words: &[u32], node: u16) -> u16
+    requires { ⌜ Stands (now words) ⌝ }
+    ensures { λ r. ⌜ r ≡ node-at (unpack (now (words .entry)) .nodes) node .count ⌝ }
+{
+    let n = node as usize;
+    if n == 0 {
+        return 0;
+    }
+    if n > 256 {
+        return 0;
+    }
+    count_in(words, n - 1)
 }
 
 // HOLDS

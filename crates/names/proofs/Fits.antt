@@ -1,0 +1,247 @@
+-- Bytes that fit a name: word by word, and what they say of a block. Assumes nothing.
+use mathlib.Core.Path.{_≡_, refl, sym, ap, ap₂, _∙_}
+use mathlib.Core.Bool.{Bool, true, false, not, _&&_}
+use mathlib.Core.List.{List, [], _∷_, _++_}
+use Prim.Native.Nat.{ℕ, zero, suc, _+_, _-_, _/_, _%_, _≤_, _<_}
+use native.Mathlib.Omega.{arith}
+use native.Mathlib.Numerals.{add-one}
+use borrow.Author.Tests.{eqb-true, ne-eqb, lt-ltb, le-leb}
+use lib.Dec.{eqb, leb, ltb}
+use lib.ListN.{length, getD, take, drop, replicate, length-take}
+use Rattle.model.specs.Lists.{same, all, filled}
+use Rattle.model.specs.Paths.{Name, name-byte, valid-name, dot}
+use Rattle.model.specs.Words.{bits, words, bytes, pack-name, unpack-name}
+use Rattle.laws.proofs.Bools.{and-left, and-right, both, and-false, is-false}
+use lib.Seq.{take-take, length-take-le}
+use Rattle.laws.proofs.Each.{Each, one, each-take, each-drop}
+use Rattle.laws.proofs.Pieces.{Byte, Word, same-equal, equal-same, bytes-of-words, words-of-bytes, filled-length, filled-bytes, bytes-are-bytes}
+use Rattle.rows.specs.declared.Block.{Block}
+use Rattle.rows.specs.Blocks.{block-words, name-of}
+use Rattle.rows.proofs.Blocks.{same-when}
+use Rattle.names.specs.Fits.{byte-fits, fits, good-name}
+
+-- TESTS IN A ROW: the first that fails decides
+
+pub stopped : {p : Bool} (x : Bool) → p ≡ false → false ≡ (p && x)
+stopped x e = rw e
+
+pub passed : {p : Bool} {x y : Bool} → p ≡ true → y ≡ x → y ≡ (p && x)
+passed e f = rw e f
+
+-- ONE BYTE
+
+module _ (b : ℕ) where
+  pub inside-zero : {t : Bool} → t ≡ true → b ≡ 0 → false ≡ byte-fits t b
+  unfolding byte-fits name-byte
+  inside-zero e z = rw (e, z)
+
+  pub inside-other : {t : Bool} → t ≡ true → (b ≡ 0 → ⊥) → not (eqb b 47) ≡ byte-fits t b
+  unfolding byte-fits name-byte
+  inside-other e n = rw (e, ne-eqb b 0 n)
+
+  pub behind-name : {t : Bool} → t ≡ false → eqb b 0 ≡ byte-fits t b
+  unfolding byte-fits
+  behind-name e = rw e
+
+-- WORD BY WORD
+
+and-true : (a : Bool) → a ≡ (a && true)
+and-true true = refl
+and-true false = refl
+
+regroup : (a b c d s : Bool) → (a && (b && (c && (d && s)))) ≡ ((a && (b && (c && (d && true)))) && s)
+regroup true true true true s = refl
+regroup true true true false s = refl
+regroup true true false d s = refl
+regroup true false c d s = refl
+regroup false b c d s = refl
+
+-- a word's bytes, each by itself
+fits-four : (n a b c d : ℕ) → (byte-fits (ltb 0 n) a && (byte-fits (ltb 1 n) b && (byte-fits (ltb 2 n) c && (byte-fits (ltb 3 n) d && true)))) ≡ fits n (a ∷ b ∷ c ∷ d ∷ [])
+unfolding fits
+fits-four zero a b c d = refl
+fits-four (suc zero) a b c d = refl
+fits-four (suc (suc zero)) a b c d = refl
+fits-four (suc (suc (suc zero))) a b c d = refl
+fits-four (suc (suc (suc (suc n)))) a b c d =
+    let m = suc (suc (suc (suc n))) in
+    rw (lt-ltb 0 m (omega arith), lt-ltb 1 m (omega arith), lt-ltb 2 m (omega arith), lt-ltb 3 m (omega arith))
+
+module _ (n w : ℕ) (small : w < 4294967296) where
+  pub word-is : {r p q s : Bool} → p ≡ byte-fits (ltb 0 n) (w / 16777216) → q ≡ byte-fits (ltb 1 n) (w / 65536 % 256) → s ≡ byte-fits (ltb 2 n) (w / 256 % 256)
+      → r ≡ byte-fits (ltb 3 n) (w % 256) → (p && (q && (s && r))) ≡ fits n (bytes (w ∷ []))
+  unfolding bytes bits
+  word-is {r} e f g h =
+      let top : w / 16777216 ≡ w / 16777216 % 256 = omega arith in
+      let low : w % 256 ≡ w / 1 % 256 = omega arith in
+      let a : byte-fits (ltb 0 n) (w / 16777216) ≡ byte-fits (ltb 0 n) (w / 16777216 % 256) = ap (byte-fits (ltb 0 n)) top in
+      let d : byte-fits (ltb 3 n) (w % 256) ≡ byte-fits (ltb 3 n) (w / 1 % 256) = ap (byte-fits (ltb 3 n)) low in
+      ap₂ _&&_ (e ∙ a) (ap₂ _&&_ f (ap₂ _&&_ g (h ∙ d ∙ and-true (byte-fits (ltb 3 n) (w / 1 % 256)))))
+      ∙ fits-four n (w / 16777216 % 256) (w / 65536 % 256) (w / 256 % 256) (w / 1 % 256)
+
+-- four bytes, then the others
+fits-behind : (n a b c d : ℕ) (s : List ℕ) → fits n (a ∷ b ∷ c ∷ d ∷ s) ≡ (fits n (a ∷ b ∷ c ∷ d ∷ []) && fits (n - 4) s)
+unfolding fits
+fits-behind zero a b c d s = regroup (byte-fits false a) (byte-fits false b) (byte-fits false c) (byte-fits false d) (fits 0 s)
+fits-behind (suc zero) a b c d s = regroup (byte-fits true a) (byte-fits false b) (byte-fits false c) (byte-fits false d) (fits 0 s)
+fits-behind (suc (suc zero)) a b c d s = regroup (byte-fits true a) (byte-fits true b) (byte-fits false c) (byte-fits false d) (fits 0 s)
+fits-behind (suc (suc (suc zero))) a b c d s = regroup (byte-fits true a) (byte-fits true b) (byte-fits true c) (byte-fits false d) (fits 0 s)
+fits-behind (suc (suc (suc (suc n)))) a b c d s =
+    let e : suc (suc (suc (suc n))) - 4 ≡ n = omega arith in
+    rw e (regroup (byte-fits true a) (byte-fits true b) (byte-fits true c) (byte-fits true d) (fits n s))
+
+-- the words of a block
+pub fits-words : (n a b c d : ℕ) {p q r s : Bool} → p ≡ fits n (bytes (a ∷ [])) → q ≡ fits (n - 4) (bytes (b ∷ [])) → r ≡ fits (n - 8) (bytes (c ∷ []))
+    → s ≡ fits (n - 12) (bytes (d ∷ [])) → (p && (q && (r && s))) ≡ fits n (bytes (a ∷ b ∷ c ∷ d ∷ []))
+unfolding bytes
+fits-words n a b c d p q r s =
+    let e : n - 4 - 4 ≡ n - 8 = omega arith in
+    let f : n - 8 - 4 ≡ n - 12 = omega arith in
+    rw (p, q, r, s) (sym (fits-behind n _ _ _ _ (bytes (b ∷ c ∷ d ∷ [])) ∙ ap (λ x. fits n (bytes (a ∷ [])) && x)
+    (fits-behind (n - 4) _ _ _ _ (bytes (c ∷ d ∷ [])) ∙ ap (λ x. fits (n - 4) (bytes (b ∷ [])) && x)
+    (ap (λ m. fits m (bytes (c ∷ d ∷ []))) e ∙ fits-behind (n - 8) _ _ _ _ (bytes (d ∷ [])) ∙ ap (λ m. fits (n - 8) (bytes (c ∷ [])) && fits m (bytes (d ∷ []))) f))))
+
+-- A NAME AND ZEROS
+
+fits-zeros : (m k : ℕ) → fits 0 (take m (replicate k 0)) ≡ true
+unfolding fits byte-fits
+fits-zeros zero k = refl
+fits-zeros (suc m) zero = refl
+fits-zeros (suc m) (suc k) = fits-zeros m k
+
+-- a name with zeros behind it fits
+fits-name : (n : List ℕ) (m k : ℕ) → length n ≤ m → all name-byte n ≡ true → fits (length n) (take m (n ++ replicate k 0)) ≡ true
+unfolding fits byte-fits all
+fits-name [] m k h e = fits-zeros m k
+fits-name (x ∷ n) zero k h e = absurd (omega arith)
+fits-name (x ∷ n) (suc m) k h e = both (and-left (name-byte x) _ e) (fits-name n m k (omega arith) (and-right (name-byte x) _ e))
+
+-- bytes that fit are a name with zeros behind it
+zeros-behind : (n : ℕ) (s : List ℕ) (k : ℕ) → n ≤ length s → length s ≤ n + k → fits n s ≡ true → take (length s) (take n s ++ replicate k 0) ≡ s
+unfolding fits byte-fits
+zeros-behind zero [] k h l e = refl
+zeros-behind zero (x ∷ s) zero h l e = absurd (omega arith)
+zeros-behind zero (x ∷ s) (suc k) h l e =
+    ap₂ _∷_ (sym (eqb-true x 0 (and-left (eqb x 0) _ e))) (zeros-behind zero s k (omega arith) (omega arith) (and-right (eqb x 0) _ e))
+zeros-behind (suc n) [] k h l e = absurd (omega arith)
+zeros-behind (suc n) (x ∷ s) k h l e = ap (λ t. x ∷ t) (zeros-behind n s k (omega arith) (omega arith) (and-right (name-byte x) _ e))
+
+name-bytes : (n : ℕ) (s : List ℕ) → n ≤ length s → fits n s ≡ true → all name-byte (take n s) ≡ true
+unfolding fits byte-fits all
+name-bytes zero s h e = refl
+name-bytes (suc n) [] h e = refl
+name-bytes (suc n) (x ∷ s) h e = both (and-left (name-byte x) _ e) (name-bytes n s (omega arith) (and-right (name-byte x) _ e))
+
+valid-bytes : (n : Name) → valid-name n ≡ true → all name-byte n ≡ true
+unfolding valid-name
+valid-bytes n e =
+    and-right (leb 1 (length n) && leb (length n) 14) (all name-byte n)
+    (and-left (leb 1 (length n) && leb (length n) 14 && all name-byte n) (not (same n (dot ∷ [])))
+    (and-left (leb 1 (length n) && leb (length n) 14 && all name-byte n && not (same n (dot ∷ []))) (not (same n (dot ∷ dot ∷ []))) e))
+
+-- A BLOCK
+
+abbrev length-in : Block → ℕ
+length-in b = b .first / 16777216
+
+-- all bytes of a block but the first, which is the length
+abbrev behind-length : Block → List ℕ
+behind-length b = drop 1 (bytes (block-words b))
+
+module _ (b : Block) where
+  dots-bad : {n : Name} → name-of b ≡ n → valid-name n ≡ false → false ≡ good-name b
+  unfolding good-name
+  dots-bad e v = sym (and-false (same (pack-name (name-of b)) (block-words b)) (valid-name (name-of b)) (λ _. ap valid-name e ∙ v))
+
+  pub no-length : length-in b ≡ 0 → false ≡ good-name b
+  unfolding name-of unpack-name bytes bits valid-name
+  no-length e =
+      let z : bits 24 8 (b .first) ≡ 0 = omega arith in
+      dots-bad (ap (λ m. take m (take 14 (behind-length b))) z) refl
+
+  pub one-dot : b .first ≡ 19791872 → false ≡ good-name b
+  unfolding name-of unpack-name bytes bits valid-name same all name-byte
+  one-dot e = dots-bad (ap (λ x. name-of (record { first = x; second = b .second; third = b .third; fourth = b .fourth })) e) refl
+
+  pub two-dots : b .first ≡ 36580864 → false ≡ good-name b
+  unfolding name-of unpack-name bytes bits valid-name same all name-byte
+  two-dots e = dots-bad (ap (λ x. name-of (record { first = x; second = b .second; third = b .third; fourth = b .fourth })) e) refl
+
+  module _ (small : b .first < 4294967296) where
+    length-byte : bits 24 8 (b .first) ≡ length-in b
+    unfolding bits
+    length-byte = omega arith
+
+    name-short : length (name-of b) ≤ 14
+    unfolding name-of unpack-name
+    name-short = simp length-take (omega arith)
+
+    name-of-bytes : Each Byte (name-of b)
+    unfolding name-of unpack-name
+    name-of-bytes = each-take (getD (bytes (block-words b)) 0 0) (each-take 14 (each-drop 1 (bytes-are-bytes (block-words b))))
+
+    -- a block that is the one of its name has the name's length and its bytes
+    named-bytes : same (pack-name (name-of b)) (block-words b) ≡ true → length (name-of b) ∷ filled 15 (name-of b) ≡ length-in b ∷ behind-length b
+    unfolding pack-name bytes
+    named-bytes e =
+        sym (bytes-of-words 4 (length (name-of b) ∷ filled 15 (name-of b)) (omega (arith, filled-length 15 (name-of b)))
+        (one (omega (arith, name-short)) (filled-bytes 15 name-of-bytes)))
+        ∙ ap bytes (same-equal (pack-name (name-of b)) (block-words b) e) ∙ ap (λ x. x ∷ behind-length b) length-byte
+
+    named-length : same (pack-name (name-of b)) (block-words b) ≡ true → length (name-of b) ≡ length-in b
+    named-length e = ap (λ l. getD l 0 0) (named-bytes e)
+
+    pub too-long : 14 < length-in b → false ≡ good-name b
+    unfolding good-name
+    too-long h =
+        sym (is-false (good-name b) (λ t.
+        let e = named-length (and-left (same (pack-name (name-of b)) (block-words b)) _ t) in
+        let z : ⊥ = omega (arith, name-short) in z))
+
+    -- a length that can be one passes as a byte of a name
+    length-passes : 1 ≤ length-in b → length-in b ≤ 14 → fits (length-in b + 1) (bytes (block-words b)) ≡ fits (length-in b) (behind-length b)
+    unfolding fits bytes byte-fits name-byte
+    length-passes g h =
+        let n : length-in b ≡ 0 → ⊥ = λ e. let z : ⊥ = omega arith in z in
+        let o : length-in b ≡ 47 → ⊥ = λ e. let z : ⊥ = omega arith in z in
+        rw (add-one (length-in b), length-byte, ne-eqb (length-in b) 0 n, ne-eqb (length-in b) 47 o)
+
+    module _ (low : 1 ≤ length-in b) (high : length-in b ≤ 14) where
+      rest-long : length (behind-length b) ≡ 15
+      unfolding bytes
+      rest-long = refl
+
+      name-is : name-of b ≡ take (length-in b) (behind-length b)
+      unfolding name-of unpack-name bytes
+      name-is = ap (λ m. take m (take 14 (behind-length b))) length-byte ∙ take-take (length-in b) 14 (behind-length b) high
+
+      name-length : length (name-of b) ≡ length-in b
+      name-length = ap length name-is ∙ length-take-le (length-in b) (behind-length b) (omega (arith, rest-long))
+
+      -- bytes that fit make a block that is the one of its name
+      fits-named : Each Word (block-words b) → fits (length-in b) (behind-length b) ≡ true → pack-name (name-of b) ≡ block-words b
+      unfolding pack-name filled bytes
+      fits-named small-all e =
+          let f : filled 15 (name-of b) ≡ behind-length b
+          = ap (filled 15) name-is ∙ zeros-behind (length-in b) (behind-length b) 15 (omega (arith, rest-long)) (omega (arith, rest-long)) e in
+          ap words (ap₂ _∷_ (name-length ∙ sym length-byte) f) ∙ words-of-bytes small-all
+
+      -- a name of dots alone shows in the first word
+      not-this : (n : Name) {k : ℕ} → getD (pack-name n) 0 0 ≡ k → (b .first ≡ k → ⊥) → pack-name (name-of b) ≡ block-words b → not (same (name-of b) n) ≡ true
+      not-this n q differ named =
+          ap not (is-false (same (name-of b) n) (λ t. differ (ap (λ l. getD l 0 0) (sym named) ∙ ap (λ m. getD (pack-name m) 0 0) (same-equal (name-of b) n t) ∙ q)))
+
+      pub good-is : Each Word (block-words b) → (b .first ≡ 19791872 → ⊥) → (b .first ≡ 36580864 → ⊥) → fits (length-in b + 1) (bytes (block-words b)) ≡ good-name b
+      unfolding good-name valid-name pack-name words filled
+      good-is small-all one-apart two-apart =
+          length-passes low high
+          ∙ same-when (fits (length-in b) (behind-length b)) (good-name b)
+          (λ e. let named = fits-named small-all e in
+          both (equal-same named)
+          (both (both (both (both (le-leb 1 (length (name-of b)) (omega (arith, name-length))) (le-leb (length (name-of b)) 14 name-short))
+          (ap (all name-byte) name-is ∙ name-bytes (length-in b) (behind-length b) (omega (arith, rest-long)) e))
+          (not-this (dot ∷ []) refl one-apart named)) (not-this (dot ∷ dot ∷ []) refl two-apart named)))
+          (λ t. let named = and-left (same (pack-name (name-of b)) (block-words b)) _ t in
+          let valid = and-right (same (pack-name (name-of b)) (block-words b)) (valid-name (name-of b)) t in
+          let bs = named-bytes named in
+          ap₂ fits (ap (λ l. getD l 0 0) (sym bs)) (ap (drop 1) (sym bs)) ∙ fits-name (name-of b) 15 15 (omega (arith, name-short)) (valid-bytes (name-of b) valid))

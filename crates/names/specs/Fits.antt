@@ -1,0 +1,25 @@
+-- What the words of a name block have to be: bytes of a valid name, then zeros. Assumes nothing.
+use mathlib.Core.Bool.{Bool, true, false, _&&_}
+use mathlib.Core.List.{List, [], _∷_}
+use Prim.Native.Nat.{ℕ, zero, suc}
+use lib.Dec.{eqb}
+use Rattle.model.specs.Lists.{same}
+use Rattle.model.specs.Paths.{name-byte, valid-name}
+use Rattle.model.specs.Words.{pack-name}
+use Rattle.rows.specs.declared.Block.{Block}
+use Rattle.rows.specs.Blocks.{block-words, name-of}
+
+-- a byte of the name, or one behind it
+unfoldable pub byte-fits : Bool → ℕ → Bool
+byte-fits true b = name-byte b
+byte-fits false b = eqb b 0
+
+-- the first n bytes can be a name's, and all behind them are zeros
+unfoldable pub fits : ℕ → List ℕ → Bool
+fits n [] = true
+fits zero (b ∷ s) = byte-fits false b && fits zero s
+fits (suc n) (b ∷ s) = byte-fits true b && fits n s
+
+-- the block is the one of its name, and the name is valid
+unfoldable pub good-name : Block → Bool
+good-name b = same (pack-name (name-of b)) (block-words b) && valid-name (name-of b)

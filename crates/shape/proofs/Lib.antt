@@ -1,0 +1,3 @@
+pub mod NodeShapes
+pub mod RowShapes
+pub mod Whole

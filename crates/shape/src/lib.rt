@@ -1,0 +1,224 @@
+// What each row of the lent words has to meet by itself, row after row.
+ghost use mathlib.Core.Bool.{_||_};
+ghost use mathlib.Core.List.{[], _∷_};
+ghost use mathlib.Core.Path.{_≡_};
+ghost use Prim.Native.Nat.{_+_, _*_, _≤_, _<_};
+ghost use lib.Dec.{eqb};
+ghost use lib.ListN.{length, take, drop};
+ghost use Rattle.model.specs.Lists.{all, pieces};
+ghost use Rattle.model.specs.Words.{bytes};
+ghost use Rattle.shape.specs.Shaped.{entry-shaped, node-shaped, hold-shaped, process-shaped, zeros, link-fits, shaped};
+use names::is_good_name;
+use paths::valid_target;
+use rows::Block;
+use rows::block_at;
+use rows::bytes_at;
+use rows::length_bits;
+use rows::top_bits;
+
+// Whether there are 8,512 words, each row just the words of what it holds, with valid names, roles and targets.
+pub fn is_shaped(words: &[u32]) -> bool
+    ensures { λ r. ⌜ r ≡ shaped (now (words .entry)) ⌝ }
+{
+    if words.len() != 8512 {
+        return false;
+    }
+    if !entries_shaped(words) {
+        return false;
+    }
+    if !nodes_shaped(words) {
+        return false;
+    }
+    if !holds_shaped(words) {
+        return false;
+    }
+    processes_shaped(words)
+}
+
+fn entries_shaped(words: &[u32]) -> bool
+    requires { ⌜ length (now words) ≡ 8512 ⌝ }
+    ensures { λ r. ⌜ r ≡ all entry-shaped (pieces 512 5 (now (words .entry))) ⌝ }
+{
+    let mut row = 0;
+    while row < 512 {
+        if !entry_shaped(words, row) {
+            return false;
+        }
+        row += 1;
+    }
+    true
+}
+
+fn nodes_shaped(words: &[u32]) -> bool
+    requires { ⌜ length (now words) ≡ 8512 ⌝ }
+    ensures { λ r. ⌜ r ≡ all node-shaped (pieces 256 17 (drop 2560 (now (words .entry)))) ⌝ }
+{
+    let mut row = 0;
+    while row < 256 {
+        if !node_shaped(words, row) {
+            return false;
+        }
+        row += 1;
+    }
+    true
+}
+
+fn holds_shaped(words: &[u32]) -> bool
+    requires { ⌜ length (now words) ≡ 8512 ⌝ }
+    ensures { λ r. ⌜ r ≡ all hold-shaped (pieces 256 6 (drop 6912 (now (words .entry)))) ⌝ }
+{
+    let mut row = 0;
+    while row < 256 {
+        if !hold_shaped(words, row) {
+            return false;
+        }
+        row += 1;
+    }
+    true
+}
+
+fn processes_shaped(words: &[u32]) -> bool
+    requires { ⌜ length (now words) ≡ 8512 ⌝ }
+    ensures { λ r. ⌜ r ≡ all process-shaped (pieces 64 1 (drop 8448 (now (words .entry)))) ⌝ }
+{
+    let mut row = 0;
+    while row < 64 {
+        if !process_shaped(words[8448 + row]) {
+            return false;
+        }
+        row += 1;
+    }
+    true
+}
+
+fn entry_shaped(words: &[u32], row: usize) -> bool
+    requires { ⌜ (length (now words) ≡ 8512) × (row < 512) ⌝ }
+    ensures { λ r. ⌜ r ≡ entry-shaped (take 5 (drop (row * 5) (now (words .entry)))) ⌝ }
+{
+    let head = words[row * 5];
+    let name = block_at(words, row * 5 + 1);
+    if head < 65536 {
+        return is_blank(head, name, 0);
+    }
+    is_good_name(name)
+}
+
+fn hold_shaped(words: &[u32], row: usize) -> bool
+    requires { ⌜ (length (now words) ≡ 8512) × (row < 256) ⌝ }
+    ensures { λ r. ⌜ r ≡ hold-shaped (take 6 (drop (6912 + row * 6) (now (words .entry)))) ⌝ }
+{
+    let head = words[6912 + row * 6];
+    let name = block_at(words, 6912 + row * 6 + 1);
+    let role = words[6912 + row * 6 + 5];
+    if head < 65536 {
+        return is_blank(head, name, role);
+    }
+    if !is_role(role) {
+        return false;
+    }
+    is_good_name(name)
+}
+
+fn process_shaped(word: u32) -> bool
+    ensures { λ r. ⌜ r ≡ process-shaped (word ∷ []) ⌝ }
+{
+    if word < 65536 {
+        return word == 0;
+    }
+    true
+}
+
+// The word of an end hold, or of an element's.
+fn is_role(word: u32) -> bool
+    ensures { λ r. ⌜ r ≡ (eqb word 1073741824 || eqb word 2147483648) ⌝ }
+{
+    if word == 1073741824 {
+        return true;
+    }
+    word == 2147483648
+}
+
+fn is_blank(head: u32, name: Block, tail: u32) -> bool
+    ensures { λ r. ⌜ r ≡ eqb (head + name .first + name .second + name .third + name .fourth + tail) 0 ⌝ }
+{
+    let sum = head as u64
+        + name.first as u64
+        + name.second as u64
+        + name.third as u64
+        + name.fourth as u64
+        + tail as u64;
+    sum == 0
+}
+
+fn node_shaped(words: &[u32], row: usize) -> bool
+    requires { ⌜ (length (now words) ≡ 8512) × (row < 256) ⌝ }
+    ensures { λ r. ⌜ r ≡ node-shaped (take 17 (drop (2560 + row * 17) (now (words .entry)))) ⌝ }
+{
+    let head = words[2560 + row * 17];
+    let kind = top_bits(head);
+    if kind == 0 {
+        if head != 0 {
+            return false;
+        }
+        return all_zeros(words, 2560 + row * 17 + 1);
+    }
+    if head % 8192 != 0 {
+        return false;
+    }
+    let count = length_bits(head);
+    if kind == 3 {
+        return link_shaped(words, 2560 + row * 17 + 1, count);
+    }
+    if count != 0 {
+        return false;
+    }
+    all_zeros(words, 2560 + row * 17 + 1)
+}
+
+fn wide(x: u32) -> u64
+    ensures { λ r. ⌜ r ≡ x ⌝ }
+{
+    x as u64
+}
+
+// Whether the 16 words from `at` on are zeros: their sum is quicker than a test of each.
+fn all_zeros(words: &[u32], at: usize) -> bool
+    requires { ⌜ at + 16 ≤ length (now words) ⌝ }
+    ensures { λ r. ⌜ r ≡ zeros (take 16 (drop at (now (words .entry)))) ⌝ }
+{
+    let mut sum: u64 = 0;
+    let mut k = 0;
+    while k < 16 {
+        sum += wide(words[at + k]);
+        k += 1;
+    }
+    sum == 0
+}
+
+fn link_shaped(words: &[u32], at: usize, count: usize) -> bool
+    requires { ⌜ at + 16 ≤ length (now words) ⌝ }
+    ensures { λ r. ⌜ r ≡ link-fits (bytes (take 16 (drop at (now (words .entry))))) count ⌝ }
+{
+    if count > 64 {
+        return false;
+    }
+    let target = bytes_at(words, at);
+    if !zeros_behind(&target, count) {
+        return false;
+    }
+    valid_target(&target[..count])
+}
+
+fn zeros_behind(target: &[u8; 64], count: usize) -> bool
+    requires { ⌜ (count ≤ 64) × (length (now target) ≡ 64) ⌝ }
+    ensures { λ r. ⌜ r ≡ zeros (drop count (now (target .entry))) ⌝ }
+{
+    let mut i = count;
+    while i < 64 {
+        if target[i] != 0 {
+            return false;
+        }
+        i += 1;
+    }
+    true
+}
