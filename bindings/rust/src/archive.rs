@@ -3,6 +3,8 @@
 use crate::Answer;
 
 extern "C" {
+    fn tickbutton_fresh(words: *mut u32, count: usize) -> u64;
+    fn tickbutton_serve(words: *mut u32, count: usize, record: *const u8, length: usize) -> u64;
     fn tickbutton_read(bytes: *const u8, count: usize, fields: *mut u32) -> u64;
     fn tickbutton_pack(
         call: u32,
@@ -59,4 +61,18 @@ pub fn pack(call: u32, process: u16, argument: u16, path1: &[u8], path2: &[u8], 
         )
     };
     answer(told).0
+}
+
+/// Makes the words fresh tables: done with 0, or refused with 1 where there are not 8,512 of them,
+/// and then nothing is written.
+pub fn fresh(words: &mut [u32]) -> Answer {
+    // SAFETY: the words are passed with their own count, and are the only thing written.
+    answer(unsafe { tickbutton_fresh(words.as_mut_ptr(), words.len()) }).0
+}
+
+/// Serves the record at the front of the bytes over the words: the answer and the bytes taken. A
+/// refusal changes no word.
+pub fn serve(words: &mut [u32], record: &[u8]) -> (Answer, usize) {
+    // SAFETY: each slice is passed with its own length, and the words alone are written.
+    answer(unsafe { tickbutton_serve(words.as_mut_ptr(), words.len(), record.as_ptr(), record.len()) })
 }

@@ -2,6 +2,10 @@
 use mathlib.Core.Path.{sym, _∙_}
 use denote.Ref.{now}
 use Rattle.laws.proofs.Results.{One-result, One-exit}
+use Rattle.exports.proofs.tickbutton_fresh.Kinds as fresh-kinds
+use Rattle.exports.proofs.tickbutton_fresh.Reads as fresh-reads
+use Rattle.exports.proofs.tickbutton_serve.Kinds as serve-kinds
+use Rattle.exports.proofs.tickbutton_serve.Reads as serve-reads
 use Rattle.exports.proofs.tickbutton_read.Kinds as read-kinds
 use Rattle.exports.proofs.tickbutton_read.Reads as read-reads
 use Rattle.exports.proofs.tickbutton_pack.Kinds as pack-kinds
@@ -20,3 +24,16 @@ pack-determined κs a x y s t p q = p .answer ∙ sym (q .answer)
 -- the destination is the sixth parameter
 pub pack-destination-determined : One-exit 3 pack-kinds.ps pack-kinds.r pack-reads.Post (λ κs s. now (s .1 .1 .1 .1 .1 .0))
 pack-destination-determined κs a x y s t p q = p .bytes ∙ sym (q .bytes)
+
+pub fresh-determined : One-result 1 fresh-kinds.ps fresh-kinds.r fresh-reads.Post
+fresh-determined κs a x y s t p q = p .answer ∙ sym (q .answer)
+
+-- the words are the first parameter
+pub fresh-words-determined : One-exit 1 fresh-kinds.ps fresh-kinds.r fresh-reads.Post (λ κs s. now (s .0))
+fresh-words-determined κs a x y s t p q = p .words ∙ sym (q .words)
+
+pub serve-determined : One-result 2 serve-kinds.ps serve-kinds.r serve-reads.Post
+serve-determined κs a x y s t p q = p .answer ∙ sym (q .answer)
+
+pub serve-words-determined : One-exit 2 serve-kinds.ps serve-kinds.r serve-reads.Post (λ κs s. now (s .0))
+serve-words-determined κs a x y s t p q = p .words ∙ sym (q .words)

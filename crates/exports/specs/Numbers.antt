@@ -5,6 +5,9 @@ use Prim.Native.Nat.{ℕ, _+_, _*_, _^_, _<_}
 use lib.ListN.{replicate}
 use Rattle.model.specs.Refusals.{Outcome, refused, granted}
 use Rattle.model.specs.Records.{Call, taken, read, packing, packed}
+use Rattle.model.specs.Answers.{number-of}
+use Rattle.model.specs.Serve.{Served, serve, made-fresh}
+use Rattle.fresh.specs.Prepared.{words-after}
 use Rattle.records.specs.Reading.{fields-of}
 use Rattle.records.specs.declared.Fields.{Fields}
 use Rattle.model.specs.declared.Answer.{Answer}
@@ -56,3 +59,22 @@ packing-number (granted n) = answer-number 2 n 0
 pub record Packs-as (c : Call) (before : List ℕ) (r : ℕ) (after : List ℕ) : Type 0 where
   pub answer : r ≡ packing-number (packing c before)
   pub bytes : after ≡ packed c before (packing c before)
+
+-- FRESH TABLES
+
+unfoldable pub fresh-number : Outcome (List ℕ) → ℕ
+fresh-number (refused n) = answer-number 3 n 0
+fresh-number (granted v) = answer-number 2 0 0
+
+pub record Makes-fresh (w : List ℕ) (r : ℕ) (v : List ℕ) : Type 0 where
+  pub answer : r ≡ fresh-number (made-fresh w)
+  pub words : v ≡ words-after w (made-fresh w)
+
+-- SERVING
+
+unfoldable pub served-number : Served → ℕ
+served-number o = answer-number (word-number (o .answer)) (number-of (o .answer)) (o .taken)
+
+pub record Serves-as (w s : List ℕ) (r : ℕ) (v : List ℕ) : Type 0 where
+  pub answer : r ≡ served-number (serve w s)
+  pub words : v ≡ serve w s .words

@@ -1,12 +1,18 @@
 // The functions of the archive, for C and Rust to link: numbers and slices alone, no function requires anything, and each gives what the proved
 // function below it gives, as numbers by one definition.
 ghost use Rattle.records.specs.Packing.{called};
-ghost use Rattle.exports.specs.Numbers.{answer-number, field-numbers, Small, Reads-as, Packs-as};
+ghost use Rattle.exports.specs.Numbers.{answer-number, field-numbers, Small, Reads-as, Packs-as, Makes-fresh, Serves-as};
 ghost use mathlib.Core.Path.{_≡_};
 ghost use Prim.Native.Nat.{_<_};
+use fresh::Prepared;
+use model::Answer;
 use records::Fields;
 use records::Packing;
 use records::Reading;
+
+const HELD: u64 = 0;
+
+const SEEN: u64 = 1;
 
 const DONE: u64 = 2;
 
@@ -69,5 +75,32 @@ pub extern "C" fn tickbutton_pack(
     match records::pack(call, process, argument, path1, path2, destination) {
         Packing::Length(length) => told(DONE, length as u64, 0),
         Packing::Refused(number) => told(REFUSED, number as u64, 0),
+    }
+}
+
+// Makes the words fresh tables: done with 0, or refused with 1 where there are not 8,512 of them, and then nothing is written.
+#[no_mangle]
+pub extern "C" fn tickbutton_fresh(words: &mut [u32]) -> u64
+    ensures { λ r. ⌜ Makes-fresh (now (words .entry)) r (now (words .exit)) ⌝ }
+{
+    match fresh::fresh(words) {
+        Prepared::Ready => told(DONE, 0, 0),
+        Prepared::Refused(number) => told(REFUSED, number as u64, 0),
+    }
+}
+
+// Serves the record at the front of the bytes: the answer, the bytes taken, and the words afterwards.
+#[no_mangle]
+pub extern "C" fn tickbutton_serve(words: &mut [u32], record: &[u8]) -> u64
+    ensures { λ r. ⌜ Serves-as (now (words .entry)) (now («record» .entry)) r (now (words .exit)) ⌝ }
+{
+    let verdict = service::serve(words, record);
+    let taken = verdict.taken as u64;
+    let answer = verdict.answer;
+    match answer {
+        Answer::Held(node) => told(HELD, node as u64, taken),
+        Answer::Seen(node) => told(SEEN, node as u64, taken),
+        Answer::Done(number) => told(DONE, number as u64, taken),
+        Answer::Refused(number) => told(REFUSED, number as u64, taken),
     }
 }

@@ -1,1 +1,59 @@
-// The whole test of soundness. Its rules stand apart: shape, index, tree_rules, hold_rules.
+// Whether lent words are sound tables. Document 01, 'The lent tables'.
+ghost use mathlib.Core.Bool.{true, _&&_};
+ghost use mathlib.Core.Path.{_≡_};
+ghost use lib.ListN.{replicate};
+ghost use Rattle.model.specs.Sound.{sound};
+ghost use Rattle.model.specs.Words.{unpack};
+ghost use Rattle.rows.specs.Stands.{Stands};
+ghost use Rattle.index.specs.Indexed.{Indexed};
+ghost use Rattle.soundness.specs.Groups.{tree-rules, hold-rules};
+use hold_pairs::ends_agree;
+use hold_pairs::holds_apart;
+use hold_rules::holds_placed;
+use hold_rules::processes_apart;
+use index::index_entries;
+use shape::is_shaped;
+use tree_rules::tree_right;
+
+// Any words, of any number and any bits.
+pub fn sound(words: &[u32]) -> bool
+    ensures { λ r. ⌜ r ≡ sound (now (words .entry)) ⌝ }
+{
+    let mut heads = [0u16; 1021];
+    let mut next = [0u16; 512];
+    sound_and_index(words, &mut heads, &mut next)
+}
+
+// The same, and where the words are sound the index of their entries, for the lookups of the same call.
+pub fn sound_and_index(words: &[u32], heads: &mut [u16; 1021], next: &mut [u16; 512]) -> bool
+    requires { ⌜ (now heads ≡ replicate 1021 0) × (now next ≡ replicate 512 0) ⌝ }
+    ensures { λ r. ⌜ (r ≡ sound (now (words .entry))) × (r ≡ true → Indexed (now (words .entry)) (now (heads .exit)) (now (next .exit))) ⌝ }
+{
+    if !is_shaped(words) {
+        return false;
+    }
+    if !index_entries(words, heads, next) {
+        return false;
+    }
+    keeps_rules(words)
+}
+
+// The rules that take more than one row, those on entries being distinct aside.
+fn keeps_rules(words: &[u32]) -> bool
+    requires { ⌜ Stands (now words) ⌝ }
+    ensures { λ r. ⌜ r ≡ (tree-rules (unpack (now (words .entry))) && hold-rules (unpack (now (words .entry)))) ⌝ }
+{
+    if !tree_right(words) {
+        return false;
+    }
+    if !processes_apart(words) {
+        return false;
+    }
+    if !holds_placed(words) {
+        return false;
+    }
+    if !holds_apart(words) {
+        return false;
+    }
+    ends_agree(words)
+}

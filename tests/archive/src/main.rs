@@ -2,6 +2,7 @@
 //! each answer came. The first difference is told and ends it.
 
 mod records;
+mod service;
 mod tally;
 
 use std::process::ExitCode;
@@ -11,8 +12,9 @@ fn main() -> ExitCode {
     let words: Vec<&str> = words.iter().map(String::as_str).collect();
     let done = match words.as_slice() {
         ["records"] => records::compare(4, 20_000),
+        ["service"] => service::compare(7, 100_000),
         _ => {
-            eprintln!("usage: archive records");
+            eprintln!("usage: archive records | service");
             return ExitCode::from(2);
         }
     };

@@ -1,0 +1,61 @@
+-- What serving and making fresh answer, as the numbers that are told. Assumes nothing.
+use mathlib.Core.Path.{_≡_, refl, sym, ap, _∙_}
+use mathlib.Core.List.{List}
+use Prim.Native.Nat.{ℕ, _<_}
+use native.Mathlib.Omega.{arith}
+use Rattle.model.specs.Refusals.{Outcome, refused, granted}
+use Rattle.model.specs.Answers.{number-of}
+use Rattle.model.specs.Records.{taken}
+use Rattle.model.specs.Calls.{Change}
+use Rattle.model.specs.Serve.{judged, served, serve, made-fresh}
+use Rattle.model.specs.declared.Answer.{Answer}
+use Rattle.model.specs.declared.Verdict.{Verdict}
+use Rattle.fresh.specs.Prepared.{Prepares, answer-of}
+use Rattle.fresh.specs.declared.Prepared.the-variants as fresh-cases
+use Rattle.service.specs.Serves.{Serves, verdict-of}
+use Rattle.exports.specs.Numbers.{answer-number, word-number, fresh-number, served-number}
+use Rattle.exports.proofs.Bounds.{taken-small}
+
+-- SERVING
+
+served-takes : (w : List ℕ) (n : ℕ) (o : Outcome Change) → served w n o .taken ≡ n
+unfolding served
+served-takes w n (refused k) = refl
+served-takes w n (granted c) = refl
+
+serve-takes : (w s : List ℕ) → serve w s .taken ≡ taken s
+unfolding serve
+serve-takes w s = served-takes w (taken s) (judged w s)
+
+module _ {w s v : List ℕ} {r : Verdict} (serves : Serves w s r v) where
+  pub few-taken : r .taken < 65536
+  unfolding verdict-of
+  few-taken =
+      let is : r .taken ≡ taken s = ap (λ (x : Verdict). x .taken) (serves .verdict) ∙ serve-takes w s in
+      rw is (taken-small s)
+
+  pub answer-told : (a : Answer) → r .answer ≡ a → answer-number (word-number a) (number-of a) (r .taken) ≡ served-number (serve w s)
+  unfolding verdict-of served-number
+  answer-told a e =
+      let answer : serve w s .answer ≡ a = sym (ap (λ (x : Verdict). x .answer) (serves .verdict)) ∙ e in
+      let bytes : r .taken ≡ serve w s .taken = ap (λ (x : Verdict). x .taken) (serves .verdict) in
+      rw (answer, bytes)
+
+-- FRESH TABLES
+
+pub ready-told : (w v : List ℕ) → Prepares w (made-fresh w) fresh-cases.Ready v → answer-number 2 0 0 ≡ fresh-number (made-fresh w)
+unfolding fresh-number
+ready-told w v h = go (made-fresh w) (h .answer)
+  where
+    go : (o : Outcome (List ℕ)) → fresh-cases.Ready ≡ answer-of o → answer-number 2 0 0 ≡ fresh-number o
+    go (refused n) e = absurd (let z : _≡_ {A = ℕ} 0 1 = cc in omega arith)
+    go (granted x) e = refl
+
+pub refusal-told : (w v : List ℕ) (n : ℕ) → Prepares w (made-fresh w) (fresh-cases.Refused n) v
+    → answer-number 3 n 0 ≡ fresh-number (made-fresh w)
+unfolding fresh-number
+refusal-told w v n h = go (made-fresh w) (h .answer)
+  where
+    go : (o : Outcome (List ℕ)) → fresh-cases.Refused n ≡ answer-of o → answer-number 3 n 0 ≡ fresh-number o
+    go (refused k) e = let is : n ≡ k = cc in rw is
+    go (granted x) e = absurd (let z : _≡_ {A = ℕ} 0 1 = cc in omega arith)

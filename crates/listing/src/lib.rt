@@ -1,0 +1,74 @@
+// The listing of document 01: a line for each record, from any parts of the input.
+ghost use mathlib.Core.Path.{_≡_};
+ghost use Rattle.listing.specs.Steps.{stepped, next};
+
+mod parts;
+mod writing;
+
+pub use parts::list_part;
+use writing::put_line;
+
+// What a step comes to.
+pub enum Step {
+    // No byte is left and none will come.
+    Over,
+    // No line yet: more bytes are needed.
+    More,
+    // The destination is shorter than the longest line.
+    Full,
+    // A line was written for a record.
+    Line { taken: usize, length: usize },
+    // A line was written, and it is the last.
+    Last { length: usize },
+}
+
+// Why no further line was written.
+pub enum Stop {
+    // The listing is over.
+    Over,
+    // More bytes are needed.
+    More,
+    // The destination is shorter than the longest line.
+    Full,
+}
+
+// What was done with a part: the bytes taken, the length of the lines, the place of the next one, and why there is none yet.
+pub struct Part {
+    pub taken: usize,
+    pub length: usize,
+    pub place: u64,
+    pub stop: Stop,
+}
+
+// No line is longer.
+const LONGEST_LINE: usize = 35;
+
+// Serves the record at the front of the bytes and writes its line. `last` says that no bytes will come behind these.
+pub fn next_line(words: &mut [u32], bytes: &[u8], last: bool, place: u64, out: &mut [u8]) -> Step
+    ensures { λ r. ⌜ stepped r (now (words .exit)) (now (out .exit)) ≡ next (now (words .entry)) (now (bytes .entry)) last place (now (out .entry)) ⌝ }
+{
+    if bytes.len() == 0 {
+        if last {
+            return Step::Over;
+        }
+        return Step::More;
+    }
+    if out.len() < LONGEST_LINE {
+        return Step::Full;
+    }
+    let verdict = service::serve(words, bytes);
+    let taken = verdict.taken;
+    let answer = verdict.answer;
+    if taken == 0 {
+        if last {
+            let length = put_line(out, place, answer);
+            return Step::Last { length };
+        }
+        return Step::More;
+    }
+    let length = put_line(out, place, answer);
+    if place == u64::MAX {
+        return Step::Last { length };
+    }
+    Step::Line { taken, length }
+}

@@ -1,0 +1,74 @@
+// The service: one record served over lent tables. Document 01, 'Numbers given back'.
+ghost use mathlib.Core.Path.{_≡_};
+ghost use Rattle.model.specs.Serve.{judged};
+ghost use Rattle.records.specs.Reading.{reading, taken-of};
+ghost use Rattle.calls.specs.Meets.{Meets};
+ghost use Rattle.service.specs.Ready.{cut-short};
+ghost use Rattle.service.specs.Serves.{Serves};
+
+mod creations;
+mod dispatch;
+mod looks;
+mod removals;
+mod walks;
+
+use dispatch::dispatch;
+use model::Answer;
+use model::Verdict;
+use records::Reading;
+use records::read;
+use soundness::sound_and_index;
+
+const UNSOUND: u8 = 1;
+
+const TOO_SHORT: u8 = 17;
+
+// Serves the record at the front of the bytes: the answer and the bytes taken. A refusal changes no word.
+pub fn serve(words: &mut [u32], record: &[u8]) -> Verdict
+    ensures { λ r. ⌜ Serves (now (words .entry)) (now («record» .entry)) r (now (words .exit)) ⌝ }
+{
+    let found = read(record);
+    let taken = taken_of(found);
+    let answer = judge(words, record, found);
+    Verdict { answer, taken }
+}
+
+fn taken_of(found: Reading) -> usize
+    ensures { λ r. ⌜ r ≡ taken-of found ⌝ }
+{
+    match found {
+        Reading::Accepted { fields: _, taken } => taken,
+        Reading::Refused { number: _, taken } => taken,
+    }
+}
+
+fn is_cut_short(found: Reading) -> bool
+    ensures { λ r. ⌜ r ≡ cut-short found ⌝ }
+{
+    match found {
+        Reading::Accepted {
+            fields: _,
+            taken: _,
+        } => false,
+        Reading::Refused { number, taken: _ } => number == TOO_SHORT,
+    }
+}
+
+// Too few bytes come before the test of the tables, and that before all else that reading found.
+fn judge(words: &mut [u32], bytes: &[u8], found: Reading) -> Answer
+    requires { ⌜ found ≡ reading (now bytes) ⌝ }
+    ensures { λ r. ⌜ Meets (now (words .entry)) (judged (now (words .entry)) (now (bytes .entry))) r (now (words .exit)) ⌝ }
+{
+    if is_cut_short(found) {
+        return Answer::Refused(TOO_SHORT);
+    }
+    let mut heads = [0u16; 1021];
+    let mut next = [0u16; 512];
+    if !sound_and_index(words, &mut heads, &mut next) {
+        return Answer::Refused(UNSOUND);
+    }
+    match found {
+        Reading::Refused { number, taken: _ } => Answer::Refused(number),
+        Reading::Accepted { fields, taken: _ } => dispatch(words, &heads, &next, bytes, fields),
+    }
+}
