@@ -1,2 +1,2 @@
+pub mod Forking
 pub mod Meeting
-pub mod Rows

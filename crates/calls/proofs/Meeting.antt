@@ -63,19 +63,3 @@ module _ (t : Tables) (p : ℕ) (g : Goal) {b : Bool} (e : b ≡ (end-held t p g
   pub is-held : b ≡ false → seen-or-held t p g ≡ hold-at t p g
   unfolding seen-or-held
   is-held h = let k : (end-held t p g && not (root t p)) ≡ false = sym e ∙ h in simp (k, seen-or-held)
-
--- a test of another user's holds, which does not count for root
-module _ (held : Bool) {rooted a : Bool} (e : a ≡ rooted) where
-  pub root-passes : a ≡ true → false ≡ (held && not rooted)
-  root-passes t = let k : rooted ≡ true = sym e ∙ t in rw k (sym (never held))
-    where
-      never : (b : Bool) → (b && false) ≡ false
-      never true = refl
-      never false = refl
-
-  pub others-ask : a ≡ false → {b : Bool} → b ≡ held → b ≡ (held && not rooted)
-  others-ask t q = let k : rooted ≡ false = sym e ∙ t in rw k (q ∙ sym (always held))
-    where
-      always : (b : Bool) → (b && true) ≡ b
-      always true = refl
-      always false = refl

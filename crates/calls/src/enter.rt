@@ -4,9 +4,9 @@ ghost use Rattle.model.specs.Calls.{enter};
 ghost use Rattle.model.specs.Words.{unpack};
 ghost use Rattle.rows.specs.Stands.{Stands};
 ghost use Rattle.calls.specs.Meets.{Meets, process-call};
-use crate::processes::add_process;
-use crate::processes::lacks_process_row;
 use model::Answer;
+use processes::add_process;
+use processes::lacks_process_row;
 use search::is_listed;
 
 pub fn enter(words: &mut [u32], process: u16, user: u16) -> Answer

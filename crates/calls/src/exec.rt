@@ -3,9 +3,9 @@ ghost use Rattle.model.specs.Calls.{exec};
 ghost use Rattle.model.specs.Words.{unpack};
 ghost use Rattle.rows.specs.Stands.{Stands};
 ghost use Rattle.calls.specs.Meets.{Meets, process-call};
-use crate::processes::is_unlisted;
 use holds::drop_of_process;
 use model::Answer;
+use processes::is_unlisted;
 
 pub fn exec(words: &mut [u32], process: u16) -> Answer
     requires { ⌜ Stands (now words) ⌝ }

@@ -3,10 +3,10 @@ ghost use Rattle.model.specs.Calls.{exit};
 ghost use Rattle.model.specs.Words.{unpack};
 ghost use Rattle.rows.specs.Stands.{Stands};
 ghost use Rattle.calls.specs.Meets.{Meets, process-call};
-use crate::processes::drop_process;
-use crate::processes::is_unlisted;
 use holds::drop_of_process;
 use model::Answer;
+use processes::drop_process;
+use processes::is_unlisted;
 
 pub fn exit(words: &mut [u32], process: u16) -> Answer
     requires { ⌜ Stands (now words) ⌝ }

@@ -10,6 +10,10 @@ use Rattle.exports.proofs.tickbutton_read.Kinds as read-kinds
 use Rattle.exports.proofs.tickbutton_read.Reads as read-reads
 use Rattle.exports.proofs.tickbutton_pack.Kinds as pack-kinds
 use Rattle.exports.proofs.tickbutton_pack.Reads as pack-reads
+use Rattle.exports.proofs.tickbutton_sound.Kinds as sound-kinds
+use Rattle.exports.proofs.tickbutton_sound.Reads as sound-reads
+use Rattle.exports.proofs.tickbutton_walk.Kinds as walk-kinds
+use Rattle.exports.proofs.tickbutton_walk.Reads as walk-reads
 
 pub read-determined : One-result 2 read-kinds.ps read-kinds.r read-reads.Post
 read-determined κs a x y s t p q = p .answer ∙ sym (q .answer)
@@ -37,3 +41,13 @@ serve-determined κs a x y s t p q = p .answer ∙ sym (q .answer)
 
 pub serve-words-determined : One-exit 2 serve-kinds.ps serve-kinds.r serve-reads.Post (λ κs s. now (s .0))
 serve-words-determined κs a x y s t p q = p .words ∙ sym (q .words)
+
+pub sound-determined : One-result 1 sound-kinds.ps sound-kinds.r sound-reads.Post
+sound-determined κs a x y s t p q = p ∙ sym q
+
+pub walk-determined : One-result 3 walk-kinds.ps walk-kinds.r walk-reads.Post
+walk-determined κs a x y s t p q = p .answer ∙ sym (q .answer)
+
+-- the goal is the fourth parameter
+pub walk-goal-determined : One-exit 3 walk-kinds.ps walk-kinds.r walk-reads.Post (λ κs s. now (s .1 .1 .1 .0))
+walk-goal-determined κs a x y s t p q = p .numbers ∙ sym (q .numbers)

@@ -1,3 +1,5 @@
 pub mod Bounds
 pub mod Served
+pub mod Walked
 pub mod Determined
+pub mod RunDetermined

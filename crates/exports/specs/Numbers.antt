@@ -1,28 +1,19 @@
 -- How answers are numbers for those who link the archive: the one definition that every exported function promises by. Assumes nothing.
 use mathlib.Core.Path.{_≡_}
+use mathlib.Core.Bool.{Bool, true, false}
 use mathlib.Core.List.{List, [], _∷_}
-use Prim.Native.Nat.{ℕ, _+_, _*_, _^_, _<_}
+use Prim.Native.Nat.{ℕ, _<_}
 use lib.ListN.{replicate}
 use Rattle.model.specs.Refusals.{Outcome, refused, granted}
 use Rattle.model.specs.Records.{Call, taken, read, packing, packed}
 use Rattle.model.specs.Answers.{number-of}
+unfoldable pub use Rattle.model.specs.Answers.{word-number, answer-number}
 use Rattle.model.specs.Serve.{Served, serve, made-fresh}
+use Rattle.model.specs.Walk.{Goal}
+use Rattle.walking.specs.Arrivals.{walking, goal-numbers}
 use Rattle.fresh.specs.Prepared.{words-after}
 use Rattle.records.specs.Reading.{fields-of}
 use Rattle.records.specs.declared.Fields.{Fields}
-use Rattle.model.specs.declared.Answer.{Answer}
-use Rattle.model.specs.declared.Answer.the-variants.{Held, Seen, Done, Refused}
-
--- the words held, seen, done and refused are 0, 1, 2 and 3
-unfoldable pub word-number : Answer → ℕ
-word-number (Held n) = 0
-word-number (Seen n) = 1
-word-number (Done n) = 2
-word-number (Refused n) = 3
-
--- the number in 32 bits, the word in two above them, the bytes taken above those
-unfoldable pub answer-number : ℕ → ℕ → ℕ → ℕ
-answer-number word number bytes = bytes * 2 ^ 34 + word * 2 ^ 32 + number
 
 -- READING
 
@@ -78,3 +69,19 @@ served-number o = answer-number (word-number (o .answer)) (number-of (o .answer)
 pub record Serves-as (w s : List ℕ) (r : ℕ) (v : List ℕ) : Type 0 where
   pub answer : r ≡ served-number (serve w s)
   pub words : v ≡ serve w s .words
+
+-- SOUNDNESS
+
+unfoldable pub soundness-number : Bool → ℕ
+soundness-number true = answer-number 2 0 0
+soundness-number false = answer-number 3 1 0
+
+-- WALKING
+
+unfoldable pub walking-number : Outcome Goal → ℕ
+walking-number (refused n) = answer-number 3 n 0
+walking-number (granted g) = answer-number 2 (g .node) 0
+
+pub record Walks-as (w path : List ℕ) (follow-last : Bool) (r : ℕ) (goal : List ℕ) : Type 0 where
+  pub answer : r ≡ walking-number (walking w path follow-last)
+  pub numbers : goal ≡ goal-numbers (walking w path follow-last)

@@ -1,7 +1,9 @@
 // The functions of the archive, for C and Rust to link: numbers and slices alone, no function requires anything, and each gives what the proved
 // function below it gives, as numbers by one definition.
 ghost use Rattle.records.specs.Packing.{called};
-ghost use Rattle.exports.specs.Numbers.{answer-number, field-numbers, Small, Reads-as, Packs-as, Makes-fresh, Serves-as};
+ghost use Rattle.model.specs.Sound.{sound};
+ghost use Rattle.exports.specs.Numbers.{answer-number, field-numbers, Small, Reads-as, Packs-as, Makes-fresh, Serves-as, soundness-number, Walks-as};
+ghost use Rattle.exports.specs.Runs.{Runs-as};
 ghost use mathlib.Core.Path.{_≡_};
 ghost use Prim.Native.Nat.{_<_};
 use fresh::Prepared;
@@ -9,6 +11,7 @@ use model::Answer;
 use records::Fields;
 use records::Packing;
 use records::Reading;
+use walking::Arrival;
 
 const HELD: u64 = 0;
 
@@ -103,4 +106,49 @@ pub extern "C" fn tickbutton_serve(words: &mut [u32], record: &[u8]) -> u64
         Answer::Done(number) => told(DONE, number as u64, taken),
         Answer::Refused(number) => told(REFUSED, number as u64, taken),
     }
+}
+
+// Whether the words are sound tables: done with 0 where they are, else refused with 1.
+#[no_mangle]
+pub extern "C" fn tickbutton_sound(words: &[u32]) -> u64
+    ensures { λ r. ⌜ r ≡ soundness-number (sound (now (words .entry))) ⌝ }
+{
+    if soundness::sound(words) {
+        return told(DONE, 0, 0);
+    }
+    told(REFUSED, 1, 0)
+}
+
+// Walks a path over the words, a link at its last name too where that is asked: done with the node that it leads to, 0 for an absence, or
+// refused. The goal is the number of elements, the end entry and the elements in the order met, each as its directory and name block, and zeros
+// behind them; where there is no end entry its words are zeros, and all are where the walk is refused.
+#[no_mangle]
+pub extern "C" fn tickbutton_walk(
+    words: &[u32],
+    path: &[u8],
+    follow_last: bool,
+    goal: &mut [u32; 46],
+) -> u64
+    ensures { λ r. ⌜ Walks-as (now (words .entry)) (now (path .entry)) «follow_last» r (now (goal .exit)) ⌝ }
+{
+    match walking::walk_to(words, path, follow_last, goal) {
+        Arrival::Node(node) => told(DONE, node as u64, 0),
+        Arrival::Refused(number) => told(REFUSED, number as u64, 0),
+    }
+}
+
+// Serves record after record, as long as a whole one is left and a slot for its answer: how many were served, in `taken` how many bytes they are,
+// and in each slot its record's answer, with no bytes told. The tables are tested once.
+#[no_mangle]
+pub extern "C" fn tickbutton_serve_run(
+    words: &mut [u32],
+    bytes: &[u8],
+    answers: &mut [u64],
+    taken: &mut [u64; 1],
+) -> u64
+    ensures { λ r. ⌜ Runs-as (now (words .entry)) (now (bytes .entry)) (now (answers .entry)) r (now (words .exit)) (now (answers .exit)) (now (taken .exit)) ⌝ }
+{
+    let run = runs::serve_run(words, bytes, answers);
+    *taken = [run.taken as u64];
+    run.served as u64
 }

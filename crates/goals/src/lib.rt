@@ -1,4 +1,7 @@
 // Where a walk stopped, as the code has it: what the walk answers and the calls go on with.
+ghost use mathlib.Core.Path.{_≡_};
+ghost use Rattle.model.specs.Calls.{absent};
+ghost use Rattle.goals.specs.Goals.{goal-of};
 use rows::Block;
 
 // A directory's node and a name in it.
@@ -19,4 +22,21 @@ pub struct Walk {
     pub stop: Stop,
     pub count: usize,
     pub elements: [Place; 8],
+}
+
+pub fn node_of(walk: Walk) -> u16
+    ensures { λ r. ⌜ r ≡ goal-of walk .node ⌝ }
+{
+    let stop = walk.stop;
+    match stop {
+        Stop::Refused(_) => 0,
+        Stop::Root => 1,
+        Stop::Entry { place: _, node } => node,
+    }
+}
+
+pub fn is_absent(walk: Walk) -> bool
+    ensures { λ r. ⌜ r ≡ absent (goal-of walk) ⌝ }
+{
+    node_of(walk) == 0
 }

@@ -1,57 +1,145 @@
-// The rules of sound tables on pairs of holds, row against row: no hold twice, and end holds on one place of one user.
-ghost use mathlib.Core.Bool.{_||_, not};
+// The rules of sound tables on pairs of holds, by chains of rows: no hold twice, and end holds on one place of one user.
 ghost use mathlib.Core.Path.{_≡_};
-ghost use Prim.Native.Nat.{_+_, _<_};
-ghost use lib.ListN.{drop};
-ghost use Rattle.model.specs.Lists.{any, all};
-ghost use Rattle.model.specs.Tables.{free-hold, same-place};
-ghost use Rattle.model.specs.Sound.{same-hold, agree, holds-distinct, ends-of-one-user};
+ghost use Prim.Native.Nat.{_<_};
+ghost use Rattle.model.specs.Tables.{same-place};
+ghost use Rattle.model.specs.Sound.{same-hold, holds-distinct, ends-of-one-user};
 ghost use Rattle.model.specs.Words.{unpack};
 ghost use Rattle.rows.specs.Stands.{Stands, hold-row};
+ghost use Rattle.index.specs.Buckets.{last-below};
+ghost use Rattle.index.specs.Descent.{Descent};
+ghost use Rattle.process_index.specs.Processes.{Processes-indexed};
+ghost use Rattle.hold_rules.specs.Used.{hold-used, used-rows};
+ghost use Rattle.hold_pairs.specs.Chains.{sum-of, hold-bucket, same-as-row, end-row, place-bucket, end-at-row, last-agrees};
+use process_index::user_in_index;
+use process_index::wide;
+use rows::Block;
 use rows::hold_directory;
 use rows::hold_name;
 use rows::hold_process;
 use rows::hold_role;
 use search::hold_is_on;
-use search::user_of_process;
 
 const END: u8 = 1;
 
-// Whether no hold stands in two rows.
-pub fn holds_apart(words: &[u32]) -> bool
-    requires { ⌜ Stands (now words) ⌝ }
+// Whether no hold stands in two rows. The chains go by process too, so that many processes on one place make no long one.
+pub fn holds_apart(words: &[u32], rows: usize) -> bool
+    requires { ⌜ (Stands (now words)) × (rows ≡ used-rows (now words)) ⌝ }
     ensures { λ r. ⌜ r ≡ holds-distinct (unpack (now (words .entry))) ⌝ }
 {
+    let mut heads = [0u16; 509];
+    let mut next = [0u16; 256];
     let mut row = 0;
-    while row < 256 {
-        if !has_no_twin(words, row) {
-            return false;
+    while row < rows {
+        if hold_directory(words, row) != 0 {
+            let bucket = bucket_of_hold(words, row);
+            let from = heads[bucket];
+            if last_same(words, &next, from, row) != 0 {
+                return false;
+            }
+            next[row] = from;
+            heads[bucket] = (row + 1) as u16;
         }
         row += 1;
     }
     true
 }
 
-// Whether all end holds on one place are of one user.
-pub fn ends_agree(words: &[u32]) -> bool
-    requires { ⌜ Stands (now words) ⌝ }
+// Whether all end holds on one place are of one user. Each is compared with the last before it alone: those before agree.
+pub fn ends_agree(words: &[u32], heads: &[u16; 127], next: &[u16; 64], rows: usize) -> bool
+    requires { ⌜ (Processes-indexed (now words) (now heads) (now next)) × (rows ≡ used-rows (now words)) ⌝ }
     ensures { λ r. ⌜ r ≡ ends-of-one-user (unpack (now (words .entry))) ⌝ }
 {
+    let mut place_heads = [0u16; 509];
+    let mut place_next = [0u16; 256];
     let mut row = 0;
-    while row < 256 {
-        if !agrees_with_all(words, row) {
-            return false;
+    while row < rows {
+        if hold_role(words, row) == END {
+            let bucket = bucket_of_place(words, row);
+            let from = place_heads[bucket];
+            if !agrees_with_last(words, heads, next, &place_next, from, row) {
+                return false;
+            }
+            place_next[row] = from;
+            place_heads[bucket] = (row + 1) as u16;
         }
         row += 1;
     }
     true
 }
 
-fn is_free(words: &[u32], row: usize) -> bool
-    requires { ⌜ (Stands (now words)) × (row < 256) ⌝ }
-    ensures { λ r. ⌜ r ≡ free-hold (hold-row (now (words .entry)) row) ⌝ }
+fn sum_of(directory: u16, name: Block) -> u64
+    ensures { λ r. ⌜ (r ≡ sum-of directory name) × (r < 17592186044416) ⌝ }
 {
-    hold_directory(words, row) == 0
+    directory as u64 * 577
+        + name.first as u64 * 211
+        + name.second as u64 * 863
+        + name.third as u64 * 389
+        + name.fourth as u64 * 727
+}
+
+fn bucket_of_place(words: &[u32], row: usize) -> usize
+    requires { ⌜ (Stands (now words)) × (row < 256) ⌝ }
+    ensures { λ r. ⌜ (r ≡ place-bucket (now (words .entry)) row) × (r < 509) ⌝ }
+{
+    (sum_of(hold_directory(words, row), hold_name(words, row)) % 509) as usize
+}
+
+fn bucket_of_hold(words: &[u32], row: usize) -> usize
+    requires { ⌜ (Stands (now words)) × (row < 256) ⌝ }
+    ensures { λ r. ⌜ (r ≡ hold-bucket (now (words .entry)) row) × (r < 509) ⌝ }
+{
+    let sum = sum_of(hold_directory(words, row), hold_name(words, row));
+    ((sum + hold_process(words, row) as u64 * 401) % 509) as usize
+}
+
+// One more than the last row before `row` with the same hold, along its chain; 0 for none.
+fn last_same(words: &[u32], next: &[u16; 256], from: u16, row: usize) -> usize
+    requires { ⌜ (Stands (now words)) × ((row < 256) × (Descent (hold-used (now words)) (hold-bucket (now words)) (same-as-row (now words) row) (now next) from (hold-bucket (now words) row) row)) ⌝ }
+    ensures { λ r. ⌜ r ≡ last-below (same-as-row (now (words .entry)) row) row ⌝ }
+{
+    let mut found = wide(from);
+    while found != 0 {
+        if is_same(words, found - 1, row) {
+            return found;
+        }
+        found = wide(next[found - 1]);
+    }
+    0
+}
+
+// One more than the last row before `row` with an end hold on the same place, along its chain; 0 for none.
+fn last_end(words: &[u32], next: &[u16; 256], from: u16, row: usize) -> usize
+    requires { ⌜ (Stands (now words)) × ((row < 256) × (Descent (end-row (now words)) (place-bucket (now words)) (end-at-row (now words) row) (now next) from (place-bucket (now words) row) row)) ⌝ }
+    ensures { λ r. ⌜ r ≡ last-below (end-at-row (now (words .entry)) row) row ⌝ }
+{
+    let mut found = wide(from);
+    while found != 0 {
+        if on_same_place(words, found - 1, row) {
+            return found;
+        }
+        found = wide(next[found - 1]);
+    }
+    0
+}
+
+// Whether no end hold on the place is before `row`, or the last is of the same user.
+fn agrees_with_last(
+    words: &[u32],
+    heads: &[u16; 127],
+    next: &[u16; 64],
+    links: &[u16; 256],
+    from: u16,
+    row: usize,
+) -> bool
+    requires { ⌜ (Processes-indexed (now words) (now heads) (now next)) × ((row < 256) × (Descent (end-row (now words)) (place-bucket (now words)) (end-at-row (now words) row) (now links) from (place-bucket (now words) row) row)) ⌝ }
+    ensures { λ r. ⌜ r ≡ last-agrees (now (words .entry)) row ⌝ }
+{
+    let found = last_end(words, links, from, row);
+    if found == 0 {
+        return true;
+    }
+    let user = user_in_index(words, heads, next, hold_process(words, found - 1));
+    user == user_in_index(words, heads, next, hold_process(words, row))
 }
 
 fn on_same_place(words: &[u32], a: usize, b: usize) -> bool
@@ -74,57 +162,4 @@ fn is_same(words: &[u32], a: usize, b: usize) -> bool
         return false;
     }
     on_same_place(words, a, b)
-}
-
-// Whether the row is free, or no later one has the same hold.
-fn has_no_twin(words: &[u32], row: usize) -> bool
-    requires { ⌜ (Stands (now words)) × (row < 256) ⌝ }
-    ensures { λ r. ⌜ r ≡ (free-hold (hold-row (now (words .entry)) row) || not (any (same-hold (hold-row (now (words .entry)) row)) (drop (row + 1) (unpack (now (words .entry)) .holds)))) ⌝ }
-{
-    if is_free(words, row) {
-        return true;
-    }
-    let mut later = row + 1;
-    while later < 256 {
-        if is_same(words, row, later) {
-            return false;
-        }
-        later += 1;
-    }
-    true
-}
-
-fn is_agreed(words: &[u32], a: usize, b: usize) -> bool
-    requires { ⌜ (Stands (now words)) × ((a < 256) × (b < 256)) ⌝ }
-    ensures { λ r. ⌜ r ≡ agree (unpack (now (words .entry)) .processes) (hold-row (now (words .entry)) a) (hold-row (now (words .entry)) b) ⌝ }
-{
-    if hold_role(words, a) != END {
-        return true;
-    }
-    if hold_role(words, b) != END {
-        return true;
-    }
-    if !on_same_place(words, a, b) {
-        return true;
-    }
-    let user = user_of_process(words, hold_process(words, a));
-    user == user_of_process(words, hold_process(words, b))
-}
-
-// Whether the row is free, or agrees with every row.
-fn agrees_with_all(words: &[u32], row: usize) -> bool
-    requires { ⌜ (Stands (now words)) × (row < 256) ⌝ }
-    ensures { λ r. ⌜ r ≡ (free-hold (hold-row (now (words .entry)) row) || all (agree (unpack (now (words .entry)) .processes) (hold-row (now (words .entry)) row)) (unpack (now (words .entry)) .holds)) ⌝ }
-{
-    if is_free(words, row) {
-        return true;
-    }
-    let mut other = 0;
-    while other < 256 {
-        if !is_agreed(words, row, other) {
-            return false;
-        }
-        other += 1;
-    }
-    true
 }

@@ -1,4 +1,5 @@
 pub mod Dropping
+pub mod Rooted
 pub mod Tests
 pub mod Towards
 pub mod Ways

@@ -76,7 +76,7 @@ fn is_covered(words: &[u32], row: usize, scope: Scope) -> bool
     }
 }
 
-fn is_in_the_way(words: &[u32], row: usize, scope: Scope, user: u16) -> bool
+fn covers_another(words: &[u32], row: usize, scope: Scope, user: u16) -> bool
     requires { ⌜ (Stands (now words)) × ((row < 256) × (Scope-named scope)) ⌝ }
     ensures { λ r. ⌜ r ≡ in-the-way (unpack (now (words .entry)) .processes) scope user (hold-row (now (words .entry)) row) ⌝ }
 {
@@ -84,6 +84,17 @@ fn is_in_the_way(words: &[u32], row: usize, scope: Scope, user: u16) -> bool
         return is_of_another(words, row, user);
     }
     false
+}
+
+// A free row is asked first: most rows are free, and none of them is in the way.
+fn is_in_the_way(words: &[u32], row: usize, scope: Scope, user: u16) -> bool
+    requires { ⌜ (Stands (now words)) × ((row < 256) × (Scope-named scope)) ⌝ }
+    ensures { λ r. ⌜ r ≡ in-the-way (unpack (now (words .entry)) .processes) scope user (hold-row (now (words .entry)) row) ⌝ }
+{
+    if hold_directory(words, row) == 0 {
+        return false;
+    }
+    covers_another(words, row, scope, user)
 }
 
 // Whether another user has a hold in the scope.

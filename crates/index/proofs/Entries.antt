@@ -1,17 +1,17 @@
 -- Entries by their chains: what the code needs while it builds the index, and what a lookup finds by it. Assumes nothing.
-use mathlib.Core.Path.{_≡_, refl, sym, ap, ap₂, subst, _∙_}
+use mathlib.Core.Path.{_≡_, refl, sym, ap, ap₂, _∙_}
 use mathlib.Core.Bool.{Bool, true, false, not}
 use mathlib.Core.List.{List}
 use Prim.Native.Nat.{ℕ, _+_, _-_, _≤_, _<_}
 use native.Mathlib.Omega.{arith}
 use borrow.Author.Tests.{eq-eqb, ne-eqb}
-use lib.ListN.{length, getD, set, replicate}
+use lib.Dec.{eqb}
+use lib.ListN.{getD, set, replicate}
 use Rattle.model.specs.Lists.{find, any}
-use Rattle.model.specs.Tables.{Place, Entry, no-entry, free-entry, same-place, at, lookup}
+use Rattle.model.specs.Tables.{Place, Entry, no-entry, free-entry, at, lookup}
 use Rattle.model.specs.Sound.{same-entry, entries-distinct}
 use Rattle.model.specs.Words.{unpack}
-use Rattle.laws.proofs.Bools.{clash, is-false}
-use Rattle.laws.proofs.Distinct.{Unlike-below, unlike-more, none-by-place, unlike-none, unlike-distinct, alike-twice}
+use Rattle.laws.proofs.Distinct.{none-by-place}
 use Rattle.laws.proofs.Members.{at-in, each-in, find-in}
 use Rattle.laws.proofs.Places.{same-place-self, same-place-equal, same-place-directory}
 use Rattle.laws.proofs.Rules.{find-only}
@@ -24,8 +24,10 @@ use Rattle.rows.proofs.Blocks.{name-back, block-named}
 use Rattle.rows.proofs.Fields.{entry-row-fits}
 use Rattle.rows.proofs.Parts.{entries-full}
 use Rattle.index.specs.Buckets.{last-below, in-bucket, Chained}
+use Rattle.index.specs.Descent.{Descent}
 use Rattle.index.specs.Indexed.{place-bucket, entry-used, entry-bucket, row-at, Chain-of, Indexed}
-use Rattle.index.proofs.Buckets.{last-within, last-passes, none-below, in-own-bucket, chained-none, chained-past, chained-more}
+use Rattle.index.proofs.Apart.{Apart-chained, apart-starts, apart-past, apart-more, apart-twice, apart-ends, all-chained}
+use Rattle.index.proofs.Buckets.{last-within, last-passes, none-below, in-own-bucket}
 
 -- ONE ROW
 
@@ -97,74 +99,66 @@ chain-from-head {w} {i = i} s c l {h = h} n u e a =
       start = c .heads-right h a ∙ ap (λ x. last-below (in-bucket (entry-used w) (entry-bucket w) x) i) e;
     }
 
+-- so it is gone down in search of the place's row
+pub chain-descent : {w next : List ℕ} {from d limit : ℕ} {b : Block} → Chain-of w next from d b limit
+    → Descent (entry-used w) (entry-bucket w) (row-at w (place-of d b)) next from (place-bucket d b) limit
+chain-descent {w} {d = d} {b = b} p = record { linked = p .linked; start = p .start; only = into-bucket w d b (p .named) (p .used) }
+
 -- THE INDEX IS BUILT
 
+-- entries at one place are free or used together
+free-together : (x y : Entry) → same-entry x y ≡ true → free-entry x ≡ free-entry y
+unfolding same-entry free-entry
+free-together x y t = ap (λ n. eqb n 0) (same-place-directory (x .place) (y .place) t)
+
 -- what holds before row i is looked at
-pub record Building (w heads next : List ℕ) (i : ℕ) : Type 0 where
-  pub inside : i ≤ 512
-  pub chained : Chained (entry-used w) (entry-bucket w) 1021 512 heads next i
-  pub unlike : Unlike-below free-entry same-entry no-entry (unpack w .entries) i
+abbrev pub Building : List ℕ → List ℕ → List ℕ → ℕ → Type 0
+Building w heads next i = Apart-chained free-entry same-entry no-entry (unpack w .entries) (entry-bucket w) 1021 512 heads next i
 
 module _ (w heads next : List ℕ) where
   pub building-starts : heads ≡ replicate 1021 0 → next ≡ replicate 512 0 → Building w heads next 0
-  building-starts e l =
-      record {
-        inside = omega arith;
-        chained = chained-none (entry-used w) (entry-bucket w) 1021 512 heads next e l;
-        unlike = unlike-none free-entry same-entry no-entry (unpack w .entries);
-      }
+  building-starts = apart-starts free-entry same-entry no-entry (unpack w .entries) (entry-bucket w) 1021 512 (entries-full w) free-together
 
   module _ {i : ℕ} (g : Building w heads next i) (r : i < 512) {d : ℕ} (e : d ≡ entry-row w i .place .directory) where
     -- a free row is like none before it
     pub building-past : d ≡ 0 → Building w heads next (i + 1)
-    unfolding same-entry
     building-past z =
-        record {
-          inside = omega arith;
-          chained = chained-past (entry-used w) (entry-bucket w) 1021 512 heads next i (row-free w i e z) (g .chained);
-          unlike =
-              unlike-more free-entry same-entry no-entry (unpack w .entries) i (g .unlike) (λ j a u.
-              is-false (same-place (entry-row w j .place) (entry-row w i .place)) (λ t.
-              clash (without-directory (entry-row w j) (same-place-directory (entry-row w j .place) (entry-row w i .place) t ∙ sym e ∙ z)) u));
-        }
+        apart-past free-entry same-entry no-entry (unpack w .entries) (entry-bucket w) 1021 512 (entries-full w) free-together g r
+        (without-directory (entry-row w i) (sym e ∙ z))
 
     module _ (used : d ≡ 0 → ⊥) {b : Block} (f : b ≡ block-of (entry-row w i .place .name)) {l : ℕ}
         (last : l ≡ last-below (row-at w (place-of d b)) i) where
-      same-last : l ≡ last-below (row-at w (entry-row w i .place)) i
+      same-last : l ≡ last-below (λ k. same-entry (entry-row w k) (entry-row w i)) i
+      unfolding same-entry at
       same-last = last ∙ ap (λ q. last-below (row-at w q) i) (row-place w i e f)
+
+      this-used : free-entry (entry-row w i) ≡ false
+      this-used = with-directory (entry-row w i) (λ z. used (e ∙ z))
 
       -- a used row that none before it is like
       pub building-more : l ≡ 0 → {h : ℕ} → h ≡ place-bucket d b → h < 1021 → Building w (set heads h (i + 1)) (set next i (getD heads h 0)) (i + 1)
-      unfolding same-entry at
       building-more z p s =
-          record {
-            inside = omega arith;
-            chained = chained-more (entry-used w) (entry-bucket w) 1021 512 heads next i r (row-used w i e used) (row-bucket w i e f p) s (g .chained);
-            unlike =
-                unlike-more free-entry same-entry no-entry (unpack w .entries) i (g .unlike)
-                (λ j a u. none-below (row-at w (entry-row w i .place)) i (sym same-last ∙ z) j a);
-          }
+          apart-more free-entry same-entry no-entry (unpack w .entries) (entry-bucket w) 1021 512 (entries-full w) free-together g r this-used same-last z
+          (row-bucket w i e f p) s
 
       -- a used row that one before it is like
       pub building-twice : (l ≡ 0 → ⊥) → false ≡ entries-distinct (unpack w)
-      unfolding at entries-distinct same-entry
-      building-twice n =
-          let s : last-below (row-at w (entry-row w i .place)) i ≡ 0 → ⊥ = λ q. n (same-last ∙ q) in
-          let j = last-below (row-at w (entry-row w i .place)) i - 1 in
-          let t : row-at w (entry-row w i .place) j ≡ true = last-passes (row-at w (entry-row w i .place)) i s in
-          let b = last-within (row-at w (entry-row w i .place)) i in
-          let p = same-place-directory (entry-row w j .place) (entry-row w i .place) t in
-          sym (alike-twice free-entry same-entry no-entry (unpack w .entries) j i (omega arith) (omega (arith, entries-full w))
-          (with-directory (entry-row w j) (λ q. used (e ∙ sym p ∙ q))) t)
+      unfolding entries-distinct
+      building-twice =
+          apart-twice free-entry same-entry no-entry (unpack w .entries) (entry-bucket w) 1021 512 (entries-full w) free-together g r this-used same-last
 
   pub building-ends : {i : ℕ} → Stands w → Building w heads next i → 512 ≤ i
       → (true ≡ entries-distinct (unpack w)) × (_≡_ {A = Bool} true true → Indexed w heads next)
   unfolding entries-distinct
-  building-ends {i} s g h =
-      let e : i ≡ 512 = omega (arith, g .inside) in
-      let u : Unlike-below free-entry same-entry no-entry (unpack w .entries) (length (unpack w .entries)) = rw (entries-full w, ← e) (g .unlike) in
-      let d = unlike-distinct free-entry same-entry no-entry (unpack w .entries) u in
-      (sym d, λ _. record { stands = s; chained = subst (λ n. Chained (entry-used w) (entry-bucket w) 1021 512 heads next n) e (g .chained); distinct = d })
+  building-ends s g h =
+      let d = apart-ends free-entry same-entry no-entry (unpack w .entries) (entry-bucket w) 1021 512 (entries-full w) free-together g h in (
+        d,
+        λ _. record {
+          stands = s;
+          chained = all-chained free-entry same-entry no-entry (unpack w .entries) (entry-bucket w) 1021 512 (entries-full w) free-together g h;
+          distinct = sym d;
+        },
+      )
 
 -- A LOOKUP BY IT
 

@@ -1,2 +1,4 @@
+pub mod Apart
 pub mod Buckets
+pub mod Descents
 pub mod Entries

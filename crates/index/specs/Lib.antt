@@ -1,2 +1,3 @@
 pub mod Buckets
+pub mod Descent
 pub mod Indexed

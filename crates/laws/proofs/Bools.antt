@@ -58,3 +58,31 @@ not-false false e = sym e
 pub is-false : (b : Bool) → (b ≡ true → ⊥) → b ≡ false
 is-false true f = absurd (f refl)
 is-false false f = refl
+
+-- TESTS PUT TOGETHER OTHERWISE
+
+pub and-true : (a : Bool) → (a && true) ≡ a
+and-true true = refl
+and-true false = refl
+
+pub and-joins : (a b c : Bool) → (a && (b && c)) ≡ ((a && b) && c)
+and-joins true b c = refl
+and-joins false b c = refl
+
+pub and-middle : (a b c d : Bool) → ((a && b) && (c && d)) ≡ ((a && c) && (b && d))
+and-middle true true c d = refl
+and-middle true false true d = refl
+and-middle true false false d = refl
+and-middle false b c d = refl
+
+pub or-and : (a b c : Bool) → (a || (b && c)) ≡ ((a || b) && (a || c))
+or-and true b c = refl
+or-and false b c = refl
+
+-- TESTS IN A ROW: the first that fails decides
+
+pub stopped : {p : Bool} (x : Bool) → p ≡ false → false ≡ (p && x)
+stopped x e = rw e
+
+pub passed : {p : Bool} {x y : Bool} → p ≡ true → y ≡ x → y ≡ (p && x)
+passed e f = rw e f

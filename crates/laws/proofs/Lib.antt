@@ -1,3 +1,4 @@
+pub mod AllRows
 pub mod Bools
 pub mod Chains
 pub mod Choices

@@ -1,12 +1,14 @@
 -- Loops over the rows of a list: what is left to do at row i gives what the whole gives. Each search has three steps: it ends at row i, goes
 -- on behind it, or comes to the end. Assumes nothing.
 use mathlib.Core.Path.{_≡_, refl, sym, ap, _∙_}
-use mathlib.Core.Bool.{Bool, true, false, _||_}
+use mathlib.Core.Bool.{Bool, true, false, not, _||_}
 use mathlib.Core.List.{List, [], _∷_}
 use Prim.Native.Nat.{ℕ, zero, suc, _+_, _≤_, _<_}
 use native.Mathlib.Omega.{arith}
 use native.Mathlib.Nat.{add-zero, not-suc-le-zero, le-of-suc-le-suc}
 use native.Mathlib.Numerals.{add-one}
+use borrow.Author.Tests.{eq-eqb, ne-eqb}
+use lib.Dec.{eqb}
 use lib.ListN.{length, getD, set, drop, drop-of-length-le}
 use lib.Seq.{sets, drop-cons}
 use Rattle.model.specs.Lists.{any, all, all-from, count, first, find, put, clear}
@@ -206,3 +208,11 @@ module _ {A : Type 0} (at : ℕ) (vs : List A) where
 
   pub store-done : (out : List A) (k : ℕ) {v : List A} → length vs ≤ k → sets out (at + k) (drop k vs) ≡ v → out ≡ v
   store-done out k h inv = sym (ap (sets out (at + k)) (drop-of-length-le vs h)) ∙ inv
+
+-- the search for a free row ends behind the last where none is
+pub none-free : {A : Type 0} (free : A → Bool) (rows : List A) {k n : ℕ} → k ≡ first free 0 rows → length rows ≡ n → eqb k n ≡ not (any free rows)
+none-free free rows {k} {n} e l = go (any free rows) refl
+  where
+    go : (b : Bool) → any free rows ≡ b → eqb k n ≡ not b
+    go true q = let h = any-first free rows q in ne-eqb k n (λ z. omega arith)
+    go false q = let h = none-first free rows q in eq-eqb k n (omega arith)

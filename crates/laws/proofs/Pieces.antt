@@ -1,6 +1,6 @@
 -- Lists of numbers cut, joined, filled and packed into words, and back. Assumes nothing.
 use mathlib.Core.Path.{_≡_, refl, sym, ap, ap₂, _∙_}
-use mathlib.Core.Bool.{Bool, true, false}
+use mathlib.Core.Bool.{Bool, true, false, _&&_}
 use mathlib.Core.List.{List, [], _∷_, _++_, map, append-assoc, append-nil}
 use Prim.Native.Nat.{ℕ, zero, suc, _+_, _*_, _^_, _/_, _%_, _≤_, _<_}
 use native.Mathlib.Omega.{arith}
@@ -32,6 +32,14 @@ same-equal (x ∷ xs) (y ∷ ys) e = go (eqb x y) refl e (same-equal xs ys)
         → _≡_ {A = List ℕ} (x ∷ xs) (y ∷ ys)
     go true q t r = ap₂ _∷_ (eqb-true x y q) (r t)
     go false q t r = cc
+
+pub same-step : (x y : ℕ) (xs ys : List ℕ) → same (x ∷ xs) (y ∷ ys) ≡ (eqb x y && same xs ys)
+unfolding same
+same-step x y xs ys = go (eqb x y)
+  where
+    go : (b : Bool) → elim b as (λ _. Bool) [ true ↦ same xs ys | false ↦ false ] ≡ (b && same xs ys)
+    go true = refl
+    go false = refl
 
 pub equal-same : {xs ys : List ℕ} → xs ≡ ys → same xs ys ≡ true
 equal-same {xs} e = rw (← e) (same-self xs)

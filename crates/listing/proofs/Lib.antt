@@ -1,12 +1,6 @@
-pub mod AnySplit
-pub mod Digits
-pub mod LineBytes
-pub mod Listings
 pub mod Nexts
 pub mod OneResult
 pub mod PartFacts
 pub mod PartRuns
-pub mod Rests
-pub mod Runs
 pub mod StepCases
 pub mod StepFacts

@@ -17,7 +17,7 @@ use Rattle.listing.specs.declared.Step.the-variants as step
 use Rattle.listing.specs.declared.Part.{Part}
 use Rattle.listing.specs.Steps.{longest-line, over-front, listed, next}
 use Rattle.listing.specs.Parts.{Filled, filled, no-line, behind, filled-by, fill, list-part}
-use Rattle.listing.proofs.LineBytes.{line-length}
+use Rattle.lines.proofs.LineBytes.{line-length}
 use Rattle.listing.proofs.Nexts.{next-over, next-nothing-yet, next-full, next-more, next-listed}
 use Rattle.listing.proofs.StepFacts.{Line-facts, Fact, answer-facts}
 

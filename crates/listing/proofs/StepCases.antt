@@ -20,11 +20,11 @@ use Rattle.model.specs.declared.Verdict.{Verdict}
 use Rattle.service.specs.Serves.{Serves, verdict-of}
 use Rattle.invariants.proofs.Records.{whole, whole-taken}
 use Rattle.listing.specs.declared.Step.the-variants.{Over, More, Full, Line, Last}
-use Rattle.listing.specs.Puts.{Puts}
+use Rattle.lines.specs.Puts.{Puts}
 use Rattle.listing.specs.Steps.{longest-line, last-place, stepped, over-front, line-step, listed, next}
 use Rattle.listing.proofs.Nexts.{next-over, next-nothing-yet, next-full, next-more, next-listed}
-use Rattle.listing.proofs.Runs.{puts-front}
-use Rattle.listing.proofs.LineBytes.{line-length}
+use Rattle.lines.proofs.Runs.{puts-front}
+use Rattle.lines.proofs.LineBytes.{line-length}
 
 -- WHAT IS SERVED
 

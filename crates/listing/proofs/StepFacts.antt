@@ -20,7 +20,7 @@ use Rattle.listing.specs.declared.Step.{Step}
 use Rattle.listing.specs.declared.Step.the-variants.{Over, More, Full, Line, Last}
 use Rattle.listing.specs.Steps.{longest-line, last-place, stepped, line-step, listed, next}
 use Rattle.listing.proofs.Nexts.{next-over, next-nothing-yet, next-full, next-more, next-listed}
-use Rattle.listing.proofs.LineBytes.{line-length}
+use Rattle.lines.proofs.LineBytes.{line-length}
 use Rattle.listing.proofs.StepCases.{serve-taken}
 
 -- a line that others may follow

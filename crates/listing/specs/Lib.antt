@@ -1,4 +1,2 @@
-pub mod Machine
 pub mod Parts
-pub mod Puts
 pub mod Steps

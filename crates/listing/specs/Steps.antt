@@ -8,12 +8,9 @@ use Rattle.model.specs.Lists.{empty}
 use Rattle.model.specs.Records.{short}
 use Rattle.model.specs.Serve.{Served, serve}
 use Rattle.model.specs.Listing.{line}
+pub use Rattle.lines.specs.Puts.{longest-line}
 use Rattle.listing.specs.declared.Step.{Step}
 use Rattle.listing.specs.declared.Step.the-variants.{Over, More, Full, Line, Last}
-
--- no line has more bytes: 20 digits, the longest word and 5 digits, two spaces and the end of the line
-abbrev pub longest-line : ℕ
-longest-line = 35
 
 -- the greatest number of 64 bits: the line at this place is the last
 abbrev pub last-place : ℕ

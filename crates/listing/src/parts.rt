@@ -4,55 +4,52 @@ ghost use Rattle.listing.specs.Parts.{filled, list-part};
 use super::Part;
 use super::Step;
 use super::Stop;
-use super::next_line;
+use super::next_tested;
+use soundness::sound_and_index;
 
 // Serves record after record of the bytes and writes their lines. `last` says that no bytes will come behind these.
 pub fn list_part(words: &mut [u32], bytes: &[u8], last: bool, place: u64, out: &mut [u8]) -> Part
     ensures { λ r. ⌜ filled r (now (words .exit)) (now (out .exit)) ≡ list-part last (now (words .entry)) (now (bytes .entry)) place (now (out .entry)) ⌝ }
 {
+    let mut heads = [0u16; 1021];
+    let mut chains = [0u16; 512];
+    let is_sound = sound_and_index(words, &mut heads, &mut chains);
     let mut from = 0;
     let mut at = 0;
     let mut place = place;
     loop {
-        let step = next_line(words, &bytes[from..], last, place, &mut out[at..]);
+        let rest = &bytes[from..];
+        let step = next_tested(
+            words,
+            &mut heads,
+            &mut chains,
+            is_sound,
+            rest,
+            last,
+            place,
+            &mut out[at..],
+        );
         match step {
             Step::Line { taken, length } => {
                 from += taken;
                 at += length;
                 place += 1;
             }
-            Step::Last { length } => {
-                return Part {
-                    taken: from,
-                    length: at + length,
-                    place,
-                    stop: Stop::Over,
-                };
-            }
-            Step::Over => {
-                return Part {
-                    taken: from,
-                    length: at,
-                    place,
-                    stop: Stop::Over,
-                };
-            }
-            Step::More => {
-                return Part {
-                    taken: from,
-                    length: at,
-                    place,
-                    stop: Stop::More,
-                };
-            }
-            Step::Full => {
-                return Part {
-                    taken: from,
-                    length: at,
-                    place,
-                    stop: Stop::Full,
-                };
-            }
+            Step::Last { length } => return ended(from, at + length, place, Stop::Over),
+            Step::Over => return ended(from, at, place, Stop::Over),
+            Step::More => return ended(from, at, place, Stop::More),
+            Step::Full => return ended(from, at, place, Stop::Full),
         }
+    }
+}
+
+fn ended(taken: usize, length: usize, place: u64, stop: Stop) -> Part
+    ensures { λ r. ⌜ r ≡ record { taken = taken; length = length; place = place; stop = stop } ⌝ }
+{
+    Part {
+        taken,
+        length,
+        place,
+        stop,
     }
 }

@@ -1,5 +1,4 @@
 pub mod Stories
-pub mod Edges
 pub mod Telling
 pub mod RecordRules
 pub mod WalkRules

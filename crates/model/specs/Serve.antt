@@ -1,12 +1,12 @@
 -- A record served over lent words, and a run of records: document 01, 'Numbers given back' as a whole. Assumes nothing.
 use mathlib.Core.Bool.{true, false, not}
-use mathlib.Core.List.{List, [], _∷_}
+use mathlib.Core.List.{List, [], _∷_, _++_, map}
 use Prim.Native.Nat.{ℕ, zero, suc}
 use lib.Dec.{eqb}
 use lib.ListN.{length, take, drop}
-use Rattle.model.specs.Lists.{empty, computing-lists}
+use Rattle.model.specs.Lists.{empty, joined, computing-lists}
 use Rattle.model.specs.Refusals.{Outcome, refused, granted, _when_, _>>_, _>>=_, computing-refusals}
-use Rattle.model.specs.Answers.{computing-answers}
+use Rattle.model.specs.Answers.{answer-slot, computing-answers}
 use Rattle.model.specs.Paths.{computing-paths}
 use Rattle.model.specs.Tables.{Tables, fresh, computing-tables}
 use Rattle.model.specs.Words.{word-count, pack, unpack, computing-words}
@@ -79,7 +79,32 @@ records-within (suc most) s =
 unfoldable pub records : List ℕ → List (List ℕ)
 records s = records-within (length s) s
 
+-- A RUN OVER LENT SLOTS FOR ANSWERS
+
+-- the whole records at the front of bytes, so many at the most; what is too short for a record is left
+unfoldable pub whole-records : ℕ → List ℕ → List (List ℕ)
+whole-records zero s = []
+whole-records (suc most) s = elim (short s) [ true ↦ [] | false ↦ take (taken s) s ∷ whole-records most (drop (taken s) s) ]
+
+-- what a run gives: how many records it served, how many bytes they are, the words afterwards, and the slots
+pub record Ran : Type 0 where
+  pub served : ℕ
+  pub taken : ℕ
+  pub words : List ℕ
+  pub slots : List ℕ
+
+-- as many records are served as are whole and have a slot: each slot in front gets its record's answer, those behind stay
+unfoldable pub run : List ℕ → List ℕ → List ℕ → Ran
+run w s slots =
+    let these = whole-records (length slots) s in
+    record {
+      served = length these;
+      taken = length (joined (λ r. r) these);
+      words = after w these;
+      slots = map answer-slot (answers w these) ++ drop (length these) slots;
+    }
+
 -- A handle: `unfolding computing` opens the whole model up to here.
 unfoldable pub computing : Unit {0}
-unfolding computing-lists computing-refusals computing-answers computing-paths computing-tables computing-words computing-sound computing-records computing-walk computing-holds computing-calls judged-with judged served serve after answers fresh-words made-fresh records-within records
+unfolding computing-lists computing-refusals computing-answers computing-paths computing-tables computing-words computing-sound computing-records computing-walk computing-holds computing-calls judged-with judged served serve after answers fresh-words made-fresh records-within records whole-records run
 computing = tt

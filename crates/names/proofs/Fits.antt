@@ -1,105 +1,39 @@
--- Bytes that fit a name: word by word, and what they say of a block. Assumes nothing.
+-- Bytes that fit a name: half by half, and what they say of a block. Assumes nothing.
 use mathlib.Core.Path.{_≡_, refl, sym, ap, ap₂, _∙_}
 use mathlib.Core.Bool.{Bool, true, false, not, _&&_}
 use mathlib.Core.List.{List, [], _∷_, _++_}
-use Prim.Native.Nat.{ℕ, zero, suc, _+_, _-_, _/_, _%_, _≤_, _<_}
+use Prim.Native.Nat.{ℕ, zero, suc, _+_, _-_, _/_, _≤_, _<_}
 use native.Mathlib.Omega.{arith}
 use native.Mathlib.Numerals.{add-one}
-use borrow.Author.Tests.{eqb-true, ne-eqb, lt-ltb, le-leb}
-use lib.Dec.{eqb, leb, ltb}
+use borrow.Author.Tests.{eqb-true, ne-eqb, le-leb}
+use lib.Dec.{eqb, leb}
 use lib.ListN.{length, getD, take, drop, replicate, length-take}
 use Rattle.model.specs.Lists.{same, all, filled}
 use Rattle.model.specs.Paths.{Name, name-byte, valid-name, dot}
 use Rattle.model.specs.Words.{bits, words, bytes, pack-name, unpack-name}
-use Rattle.laws.proofs.Bools.{and-left, and-right, both, and-false, is-false}
+use Rattle.laws.proofs.Bools.{and-left, and-right, both, and-false, is-false, and-true, and-joins, stopped, passed}
 use lib.Seq.{take-take, length-take-le}
-use Rattle.laws.proofs.Each.{Each, one, each-take, each-drop}
+use Rattle.laws.proofs.Each.{Each, none, one, each-take, each-drop}
 use Rattle.laws.proofs.Pieces.{Byte, Word, same-equal, equal-same, bytes-of-words, words-of-bytes, filled-length, filled-bytes, bytes-are-bytes}
 use Rattle.rows.specs.declared.Block.{Block}
 use Rattle.rows.specs.Blocks.{block-words, name-of}
 use Rattle.rows.proofs.Blocks.{same-when}
 use Rattle.names.specs.Fits.{byte-fits, fits, good-name}
 
--- TESTS IN A ROW: the first that fails decides
+-- BYTES AND THOSE BEHIND THEM
 
-pub stopped : {p : Bool} (x : Bool) → p ≡ false → false ≡ (p && x)
-stopped x e = rw e
-
-pub passed : {p : Bool} {x y : Bool} → p ≡ true → y ≡ x → y ≡ (p && x)
-passed e f = rw e f
-
--- ONE BYTE
-
-module _ (b : ℕ) where
-  pub inside-zero : {t : Bool} → t ≡ true → b ≡ 0 → false ≡ byte-fits t b
-  unfolding byte-fits name-byte
-  inside-zero e z = rw (e, z)
-
-  pub inside-other : {t : Bool} → t ≡ true → (b ≡ 0 → ⊥) → not (eqb b 47) ≡ byte-fits t b
-  unfolding byte-fits name-byte
-  inside-other e n = rw (e, ne-eqb b 0 n)
-
-  pub behind-name : {t : Bool} → t ≡ false → eqb b 0 ≡ byte-fits t b
-  unfolding byte-fits
-  behind-name e = rw e
-
--- WORD BY WORD
-
-and-true : (a : Bool) → a ≡ (a && true)
-and-true true = refl
-and-true false = refl
-
-regroup : (a b c d s : Bool) → (a && (b && (c && (d && s)))) ≡ ((a && (b && (c && (d && true)))) && s)
-regroup true true true true s = refl
-regroup true true true false s = refl
-regroup true true false d s = refl
-regroup true false c d s = refl
-regroup false b c d s = refl
-
--- a word's bytes, each by itself
-fits-four : (n a b c d : ℕ) → (byte-fits (ltb 0 n) a && (byte-fits (ltb 1 n) b && (byte-fits (ltb 2 n) c && (byte-fits (ltb 3 n) d && true)))) ≡ fits n (a ∷ b ∷ c ∷ d ∷ [])
+fits-behind : (n : ℕ) (s t : List ℕ) → fits n (s ++ t) ≡ (fits n s && fits (n - length s) t)
 unfolding fits
-fits-four zero a b c d = refl
-fits-four (suc zero) a b c d = refl
-fits-four (suc (suc zero)) a b c d = refl
-fits-four (suc (suc (suc zero))) a b c d = refl
-fits-four (suc (suc (suc (suc n)))) a b c d =
-    let m = suc (suc (suc (suc n))) in
-    rw (lt-ltb 0 m (omega arith), lt-ltb 1 m (omega arith), lt-ltb 2 m (omega arith), lt-ltb 3 m (omega arith))
-
-module _ (n w : ℕ) (small : w < 4294967296) where
-  pub word-is : {r p q s : Bool} → p ≡ byte-fits (ltb 0 n) (w / 16777216) → q ≡ byte-fits (ltb 1 n) (w / 65536 % 256) → s ≡ byte-fits (ltb 2 n) (w / 256 % 256)
-      → r ≡ byte-fits (ltb 3 n) (w % 256) → (p && (q && (s && r))) ≡ fits n (bytes (w ∷ []))
-  unfolding bytes bits
-  word-is {r} e f g h =
-      let top : w / 16777216 ≡ w / 16777216 % 256 = omega arith in
-      let low : w % 256 ≡ w / 1 % 256 = omega arith in
-      let a : byte-fits (ltb 0 n) (w / 16777216) ≡ byte-fits (ltb 0 n) (w / 16777216 % 256) = ap (byte-fits (ltb 0 n)) top in
-      let d : byte-fits (ltb 3 n) (w % 256) ≡ byte-fits (ltb 3 n) (w / 1 % 256) = ap (byte-fits (ltb 3 n)) low in
-      ap₂ _&&_ (e ∙ a) (ap₂ _&&_ f (ap₂ _&&_ g (h ∙ d ∙ and-true (byte-fits (ltb 3 n) (w / 1 % 256)))))
-      ∙ fits-four n (w / 16777216 % 256) (w / 65536 % 256) (w / 256 % 256) (w / 1 % 256)
-
--- four bytes, then the others
-fits-behind : (n a b c d : ℕ) (s : List ℕ) → fits n (a ∷ b ∷ c ∷ d ∷ s) ≡ (fits n (a ∷ b ∷ c ∷ d ∷ []) && fits (n - 4) s)
-unfolding fits
-fits-behind zero a b c d s = regroup (byte-fits false a) (byte-fits false b) (byte-fits false c) (byte-fits false d) (fits 0 s)
-fits-behind (suc zero) a b c d s = regroup (byte-fits true a) (byte-fits false b) (byte-fits false c) (byte-fits false d) (fits 0 s)
-fits-behind (suc (suc zero)) a b c d s = regroup (byte-fits true a) (byte-fits true b) (byte-fits false c) (byte-fits false d) (fits 0 s)
-fits-behind (suc (suc (suc zero))) a b c d s = regroup (byte-fits true a) (byte-fits true b) (byte-fits true c) (byte-fits false d) (fits 0 s)
-fits-behind (suc (suc (suc (suc n)))) a b c d s =
-    let e : suc (suc (suc (suc n))) - 4 ≡ n = omega arith in
-    rw e (regroup (byte-fits true a) (byte-fits true b) (byte-fits true c) (byte-fits true d) (fits n s))
-
--- the words of a block
-pub fits-words : (n a b c d : ℕ) {p q r s : Bool} → p ≡ fits n (bytes (a ∷ [])) → q ≡ fits (n - 4) (bytes (b ∷ [])) → r ≡ fits (n - 8) (bytes (c ∷ []))
-    → s ≡ fits (n - 12) (bytes (d ∷ [])) → (p && (q && (r && s))) ≡ fits n (bytes (a ∷ b ∷ c ∷ d ∷ []))
-unfolding bytes
-fits-words n a b c d p q r s =
-    let e : n - 4 - 4 ≡ n - 8 = omega arith in
-    let f : n - 8 - 4 ≡ n - 12 = omega arith in
-    rw (p, q, r, s) (sym (fits-behind n _ _ _ _ (bytes (b ∷ c ∷ d ∷ [])) ∙ ap (λ x. fits n (bytes (a ∷ [])) && x)
-    (fits-behind (n - 4) _ _ _ _ (bytes (c ∷ d ∷ [])) ∙ ap (λ x. fits (n - 4) (bytes (b ∷ [])) && x)
-    (ap (λ m. fits m (bytes (c ∷ d ∷ []))) e ∙ fits-behind (n - 8) _ _ _ _ (bytes (d ∷ [])) ∙ ap (λ m. fits (n - 8) (bytes (c ∷ [])) && fits m (bytes (d ∷ []))) f))))
+fits-behind zero [] t = refl
+fits-behind (suc n) [] t = let e : suc n ≡ suc n - 0 = omega arith in ap (λ m. fits m t) e
+fits-behind zero (b ∷ s) t =
+    let e : 0 - length s ≡ 0 - suc (length s) = omega arith in
+    ap (λ x. byte-fits false b && x) (fits-behind zero s t) ∙ ap (λ m. byte-fits false b && (fits 0 s && fits m t)) e
+    ∙ and-joins (byte-fits false b) (fits 0 s) (fits (0 - suc (length s)) t)
+fits-behind (suc n) (b ∷ s) t =
+    let e : n - length s ≡ suc n - suc (length s) = omega arith in
+    ap (λ x. byte-fits true b && x) (fits-behind n s t) ∙ ap (λ m. byte-fits true b && (fits n s && fits m t)) e
+    ∙ and-joins (byte-fits true b) (fits n s) (fits (suc n - suc (length s)) t)
 
 -- A NAME AND ZEROS
 
@@ -138,6 +72,42 @@ valid-bytes n e =
     and-right (leb 1 (length n) && leb (length n) 14) (all name-byte n)
     (and-left (leb 1 (length n) && leb (length n) 14 && all name-byte n) (not (same n (dot ∷ [])))
     (and-left (leb 1 (length n) && leb (length n) 14 && all name-byte n && not (same n (dot ∷ []))) (not (same n (dot ∷ dot ∷ []))) e))
+
+-- HALF BY HALF
+
+-- only two zero words have zero bytes alone
+zero-words : (c d : ℕ) → Word c → Word d → fits 0 (bytes (c ∷ d ∷ [])) ≡ true → c ∷ d ∷ [] ≡ 0 ∷ 0 ∷ []
+unfolding bytes words
+zero-words c d p q e = sym (words-of-bytes (one p (one q none))) ∙ ap words (sym (zeros-behind 0 (bytes (c ∷ d ∷ [])) 8 (omega arith) (omega arith) e))
+
+module _ (n a b c d : ℕ) where
+  halves : (fits n (bytes (a ∷ b ∷ [])) && fits (n - 8) (bytes (c ∷ d ∷ []))) ≡ fits n (bytes (a ∷ b ∷ c ∷ d ∷ []))
+  unfolding bytes
+  halves = sym (fits-behind n (bytes (a ∷ b ∷ [])) (bytes (c ∷ d ∷ [])))
+
+  -- a name that ends in the first half
+  module _ (short : n < 8) where
+    none-left : n - 8 ≡ 0
+    none-left = omega arith
+
+    pub more-behind : Word c → Word d → (c ∷ d ∷ [] ≡ 0 ∷ 0 ∷ [] → ⊥) → false ≡ fits n (bytes (a ∷ b ∷ c ∷ d ∷ []))
+    more-behind p q more =
+        sym (and-false (fits n (bytes (a ∷ b ∷ []))) (fits (n - 8) (bytes (c ∷ d ∷ [])))
+        (λ _. ap (λ m. fits m (bytes (c ∷ d ∷ []))) none-left ∙ is-false (fits 0 (bytes (c ∷ d ∷ []))) (λ e. more (zero-words c d p q e))))
+        ∙ halves
+
+    pub none-behind : {r : Bool} → c ≡ 0 → d ≡ 0 → r ≡ fits n (bytes (a ∷ b ∷ [])) → r ≡ fits n (bytes (a ∷ b ∷ c ∷ d ∷ []))
+    unfolding bytes bits fits byte-fits
+    none-behind y z e =
+        e ∙ sym (and-true (fits n (bytes (a ∷ b ∷ []))))
+        ∙ ap (λ x. fits n (bytes (a ∷ b ∷ [])) && x) (sym (ap₂ (λ x v. fits 0 (bytes (x ∷ v ∷ []))) y z) ∙ ap (λ m. fits m (bytes (c ∷ d ∷ []))) (sym none-left))
+        ∙ halves
+
+  pub first-half-fails : fits n (bytes (a ∷ b ∷ [])) ≡ false → false ≡ fits n (bytes (a ∷ b ∷ c ∷ d ∷ []))
+  first-half-fails e = stopped (fits (n - 8) (bytes (c ∷ d ∷ []))) e ∙ halves
+
+  pub first-half-passes : {r : Bool} → fits n (bytes (a ∷ b ∷ [])) ≡ true → r ≡ fits (n - 8) (bytes (c ∷ d ∷ [])) → r ≡ fits n (bytes (a ∷ b ∷ c ∷ d ∷ []))
+  first-half-passes e f = passed e f ∙ halves
 
 -- A BLOCK
 

@@ -1,7 +1,8 @@
 -- What the words of a name block have to be: bytes of a valid name, then zeros. Assumes nothing.
 use mathlib.Core.Bool.{Bool, true, false, _&&_}
 use mathlib.Core.List.{List, [], _∷_}
-use Prim.Native.Nat.{ℕ, zero, suc}
+use Prim.Native.Nat.{ℕ, zero, suc, _+_, _*_}
+use lib.Bits.{bitAnd, bitOr, bitXor}
 use lib.Dec.{eqb}
 use Rattle.model.specs.Lists.{same}
 use Rattle.model.specs.Paths.{name-byte, valid-name}
@@ -23,3 +24,20 @@ fits (suc n) (b ∷ s) = byte-fits true b && fits n s
 -- the block is the one of its name, and the name is valid
 unfoldable pub good-name : Block → Bool
 good-name b = same (pack-name (name-of b)) (block-words b) && valid-name (name-of b)
+
+-- EIGHT BYTES AS ONE NUMBER
+
+-- bytes behind a number, the first the most significant
+unfoldable pub number : ℕ → List ℕ → ℕ
+number n [] = n
+number n (b ∷ s) = number (n * 256 + b) s
+
+-- the top bits of the first n of `room` bytes
+unfoldable pub tops : ℕ → ℕ → List ℕ
+tops n zero = []
+tops zero (suc room) = 0 ∷ tops zero room
+tops (suc n) (suc room) = 128 ∷ tops n room
+
+-- by the lower bits and the top bit of every byte: the top bit of each byte of x that is not the byte of `other` at its place
+unfoldable pub differing : ℕ → ℕ → ℕ → ℕ → ℕ
+differing lows highs other x = bitAnd (bitOr (bitXor (bitAnd x lows) other + lows) x) highs

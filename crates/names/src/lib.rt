@@ -1,15 +1,22 @@
 // Name blocks tested by their words.
 ghost use mathlib.Core.Path.{_≡_};
 ghost use mathlib.Core.List.{[], _∷_};
-ghost use Prim.Native.Nat.{_-_};
+ghost use Prim.Native.Nat.{_<_};
 ghost use Rattle.model.specs.Words.{bytes};
-ghost use Rattle.names.specs.Fits.{byte-fits, fits, good-name};
+ghost use Rattle.names.specs.Fits.{fits, good-name, number, tops, differing};
 use rows::Block;
 
 // A dot alone, and two, as the first word of a block.
 const ONE_DOT: u32 = 19791872;
 
 const TWO_DOTS: u32 = 36580864;
+
+// Of eight bytes the lower seven bits each, and the top bits; and eight slashes.
+const LOW_BITS: u64 = 0x7f7f7f7f7f7f7f7f;
+
+const TOP_BITS: u64 = 0x8080808080808080;
+
+const SLASHES: u64 = 0x2f2f2f2f2f2f2f2f;
 
 // Whether the block is the one of its name, with zeros behind it, and the name is valid.
 pub fn is_good_name(name: Block) -> bool
@@ -35,48 +42,46 @@ pub fn is_good_name(name: Block) -> bool
 fn words_fit(name: Block, count: usize) -> bool
     ensures { λ r. ⌜ r ≡ fits count (bytes (name .first ∷ name .second ∷ name .third ∷ name .fourth ∷ [])) ⌝ }
 {
-    if !word_fits(name.first, count) {
-        return false;
-    }
-    if !word_fits(name.second, less(count, 4)) {
-        return false;
-    }
-    if !word_fits(name.third, less(count, 8)) {
-        return false;
-    }
-    word_fits(name.fourth, less(count, 12))
-}
-
-fn less(count: usize, passed: usize) -> usize
-    ensures { λ r. ⌜ r ≡ count - passed ⌝ }
-{
-    if count < passed { 0 } else { count - passed }
-}
-
-// Whether the first `count` bytes of the word can be a name's and the others are zeros.
-fn word_fits(word: u32, count: usize) -> bool
-    ensures { λ r. ⌜ r ≡ fits count (bytes (word ∷ [])) ⌝ }
-{
-    if !byte_fits(word / 16777216, 0 < count) {
-        return false;
-    }
-    if !byte_fits(word / 65536 % 256, 1 < count) {
-        return false;
-    }
-    if !byte_fits(word / 256 % 256, 2 < count) {
-        return false;
-    }
-    byte_fits(word % 256, 3 < count)
-}
-
-fn byte_fits(byte: u32, inside: bool) -> bool
-    ensures { λ r. ⌜ r ≡ byte-fits inside byte ⌝ }
-{
-    if inside {
-        if byte == 0 {
+    if count < 8 {
+        if name.third != 0 {
             return false;
         }
-        return byte != 47;
+        if name.fourth != 0 {
+            return false;
+        }
+        return half_fits(name.first, name.second, count);
     }
-    byte == 0
+    if !half_fits(name.first, name.second, count) {
+        return false;
+    }
+    half_fits(name.third, name.fourth, count - 8)
+}
+
+// Whether the first `count` of the eight bytes can be a name's and the others are zeros: all eight are tested at once.
+fn half_fits(first: u32, second: u32, count: usize) -> bool
+    ensures { λ r. ⌜ r ≡ fits count (bytes (first ∷ second ∷ [])) ⌝ }
+{
+    let half = first as u64 * 4294967296 + second as u64;
+    if differing(half, 0) != tops_of(count) {
+        return false;
+    }
+    differing(half, SLASHES) == TOP_BITS
+}
+
+// The top bit of each of the eight bytes that is not the byte of `other` at its place. No byte of `other` is above 127.
+fn differing(eight: u64, other: u64) -> u64
+    requires { ⌜ other < 9223372036854775808 ⌝ }
+    ensures { λ r. ⌜ r ≡ differing 9187201950435737471 9259542123273814144 other eight ⌝ }
+{
+    ((((eight & LOW_BITS) ^ other) + LOW_BITS) | eight) & TOP_BITS
+}
+
+// The top bits of the first `count` of eight bytes.
+fn tops_of(count: usize) -> u64
+    ensures { λ r. ⌜ r ≡ number 0 (tops count 8) ⌝ }
+{
+    if count > 7 {
+        return TOP_BITS;
+    }
+    TOP_BITS - (TOP_BITS >> (8 * count))
 }

@@ -1,3 +1,4 @@
+pub mod Clean
 pub mod Parts
 pub mod Names
 pub mod Positions

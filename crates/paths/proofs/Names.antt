@@ -1,5 +1,5 @@
 -- The tests of one name: its bytes, its length, and the dots that no name may be. Assumes nothing.
-use mathlib.Core.Path.{_≡_, refl}
+use mathlib.Core.Path.{_≡_, refl, sym, _∙_}
 use mathlib.Core.Bool.{Bool, true, false, not, _&&_, _||_, true≢false, false≢true}
 use mathlib.Core.List.{List, [], _∷_}
 use Prim.Native.Nat.{ℕ, _≤_, _<_}
@@ -91,3 +91,19 @@ pub name-by-bytes : (n : List ℕ) → 1 ≤ length n → length n ≤ 14 → do
 unfolding valid-name dots
 name-by-bytes n g h e =
     rw (le-leb 1 (length n) g, le-leb (length n) 14 h) (neither-of (all name-byte n) (same n (dot ∷ [])) (same n (dot ∷ dot ∷ [])) e)
+
+-- where each byte is right, the dots decide; where one is not, the name is not valid
+pub name-by-dots : (n : List ℕ) → 1 ≤ length n → length n ≤ 14 → all name-byte n ≡ true → not (dots n) ≡ valid-name n
+name-by-dots n g h a = go (dots n) refl
+  where
+    go : (t : Bool) → dots n ≡ t → not t ≡ valid-name n
+    go true e = sym (name-of-dots n e)
+    go false e = sym (name-by-bytes n g h e ∙ a)
+
+pub name-broken : (n : List ℕ) → all name-byte n ≡ false → valid-name n ≡ false
+unfolding valid-name
+name-broken n e = rw e (go (leb 1 (length n) && leb (length n) 14) (not (same n (dot ∷ []))) (not (same n (dot ∷ dot ∷ []))))
+  where
+    go : (a s t : Bool) → (a && false && s && t) ≡ false
+    go true s t = refl
+    go false s t = refl

@@ -37,11 +37,11 @@ parts-split (b ∷ s) = go (eqb b slash) refl (parts-split s)
     go true e h = rw (slash-first b s e)
     go false e h = rw (byte-first b s _ _ e h)
 
-slash-ends : (b : ℕ) (s : List ℕ) → eqb b slash ≡ true → first-part (b ∷ s) ≡ []
+pub slash-ends : (b : ℕ) (s : List ℕ) → eqb b slash ≡ true → first-part (b ∷ s) ≡ []
 unfolding first-part first-of
 slash-ends b s e = rw (slash-first b s e)
 
-byte-goes-on : (b : ℕ) (s : List ℕ) → eqb b slash ≡ false → first-part (b ∷ s) ≡ b ∷ first-part s
+pub byte-goes-on : (b : ℕ) (s : List ℕ) → eqb b slash ≡ false → first-part (b ∷ s) ≡ b ∷ first-part s
 unfolding first-part first-of
 byte-goes-on b s e = rw (byte-first b s _ _ e (parts-split s))
 

@@ -4,7 +4,7 @@ use mathlib.Core.List.{List, [], _∷_}
 use Prim.Native.Nat.{ℕ, _+_}
 use lib.ListN.{length, drop}
 use Rattle.model.specs.Lists.{same}
-use Rattle.model.specs.Paths.{dot, parts, absolute, names}
+use Rattle.model.specs.Paths.{dot, parts, absolute, names, name-byte}
 use Rattle.paths.specs.declared.Next.{Next}
 use Rattle.paths.specs.declared.Next.the-variants.{Name, End}
 
@@ -28,6 +28,11 @@ first-of (part ∷ others) = part
 
 unfoldable pub first-part : List ℕ → List ℕ
 first-part s = first-of (parts s)
+
+-- the bytes at the front that a name can have
+unfoldable pub clean : List ℕ → List ℕ
+clean [] = []
+clean (b ∷ s) = elim (name-byte b) [ true ↦ b ∷ clean s | false ↦ [] ]
 
 -- the two names that no name may be
 unfoldable pub dots : List ℕ → Bool

@@ -1,11 +1,12 @@
 // Paths as bytes: which are valid, and where the next name stands. Document 01, 'Paths'.
 // The test and the split are apart, so that a change of one leaves the other alone; they share only `name_end`.
+ghost use mathlib.Core.Bool.{true};
 ghost use mathlib.Core.Path.{_≡_};
 ghost use Prim.Native.Nat.{_+_, _≤_};
 ghost use lib.ListN.{length, drop};
 ghost use Rattle.model.specs.Lists.{all};
 ghost use Rattle.model.specs.Paths.{parts, names, name-byte, valid-name, valid-path, valid-target};
-ghost use Rattle.paths.specs.Split.{first-part, dots, next};
+ghost use Rattle.paths.specs.Split.{first-part, clean, dots, next};
 
 const SLASH: u8 = b'/';
 
@@ -76,16 +77,24 @@ pub fn valid_target(target: &[u8]) -> bool
 pub fn valid_name(name: &[u8]) -> bool
     ensures { λ r. ⌜ r ≡ valid-name (now (name .entry)) ⌝ }
 {
+    if clean_end(name, 0) != name.len() {
+        return false;
+    }
+    valid_length(name)
+}
+
+// The length of a name, and the dots that no name may be, where each byte is right.
+fn valid_length(name: &[u8]) -> bool
+    requires { ⌜ all name-byte (now name) ≡ true ⌝ }
+    ensures { λ r. ⌜ r ≡ valid-name (now (name .entry)) ⌝ }
+{
     if name.len() < 1 {
         return false;
     }
     if LONGEST_NAME < name.len() {
         return false;
     }
-    if is_dots(name) {
-        return false;
-    }
-    valid_bytes(name)
+    !is_dots(name)
 }
 
 // Each name between the slashes is valid; there is at least one byte.
@@ -109,15 +118,37 @@ fn valid_parts(path: &[u8], start: usize) -> bool
 {
     let mut at = start;
     loop {
-        let end = name_end(path, at);
-        if !valid_name(&path[at..end]) {
+        let end = clean_end(path, at);
+        if end == path.len() {
+            return valid_length(&path[at..end]);
+        }
+        if path[end] != SLASH {
             return false;
         }
-        if end == path.len() {
-            return true;
+        if !valid_length(&path[at..end]) {
+            return false;
         }
         at = end + 1;
     }
+}
+
+// The first byte from a position on that no name has, or else the end.
+fn clean_end(path: &[u8], at: usize) -> usize
+    requires { ⌜ at ≤ length (now path) ⌝ }
+    ensures { λ r. ⌜ r ≡ at + length (clean (drop at (now (path .entry)))) ⌝ }
+{
+    let mut end = at;
+    while end < path.len() {
+        let byte = path[end];
+        if byte == SLASH {
+            return end;
+        }
+        if byte == 0 {
+            return end;
+        }
+        end += 1;
+    }
+    end
 }
 
 // The first slash from a position on, or else the end.
@@ -133,22 +164,6 @@ fn name_end(path: &[u8], at: usize) -> usize
         end += 1;
     }
     end
-}
-
-fn valid_bytes(name: &[u8]) -> bool
-    ensures { λ r. ⌜ r ≡ all name-byte (now (name .entry)) ⌝ }
-{
-    let mut i = 0;
-    while i < name.len() {
-        if name[i] == 0 {
-            return false;
-        }
-        if name[i] == SLASH {
-            return false;
-        }
-        i += 1;
-    }
-    true
 }
 
 // One dot alone, or two.

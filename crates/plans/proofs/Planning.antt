@@ -6,7 +6,7 @@ use mathlib.Core.Option.{none, some}
 use Prim.Native.Nat.{ℕ, _+_, _≤_, _<_}
 use native.Mathlib.Omega.{arith}
 use native.Mathlib.Numerals.{add-one}
-use borrow.Author.Tests.{eq-eqb, ne-eqb}
+use borrow.Author.Tests.{le-ltb, eq-eqb, ne-eqb}
 use lib.Dec.{ltb}
 use lib.ListN.{length, getD, set, take, drop, replicate, length-set, length-map, drop-of-length-le, List·getD-map}
 use lib.Seq.{take-length, take-suc, take-suc-set, getD-take, length-take-le, set-out}
@@ -88,6 +88,10 @@ module _ (p : Plan) (ok : Planned p) where
   pub room-is : (t : Tables) {n : ℕ} → n ≡ count free-hold (t .holds) → ltb n (p .count) ≡ no-room t (planned-holds p)
   unfolding no-room
   room-is t e = ap (λ k. ltb k (p .count)) e ∙ ap (ltb (count free-hold (t .holds))) (sym planned-long)
+
+  -- where nothing is planned nothing is lacking
+  pub room-for-none : (t : Tables) → p .count ≡ 0 → false ≡ no-room t (planned-holds p)
+  room-for-none t z = sym (le-ltb (count free-hold (t .holds)) (p .count) (omega arith)) ∙ room-is t refl
 
 -- ONE HOLD WISHED FOR
 

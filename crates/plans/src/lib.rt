@@ -162,6 +162,9 @@ pub fn lacks_room(words: &[u32], plan: Plan) -> bool
     ensures { λ r. ⌜ r ≡ no-room (unpack (now (words .entry))) (planned-holds plan) ⌝ }
 {
     let n = plan.count;
+    if n == 0 {
+        return false;
+    }
     free_hold_rows(words) < n
 }
 

@@ -2,15 +2,10 @@
 use mathlib.Core.Path.{sym, _∙_}
 use denote.Ref.{now}
 use Rattle.laws.proofs.Results.{One-result, One-exit}
-use Rattle.records.proofs.table.row_of.Kinds as row-of-kinds
-use Rattle.records.proofs.table.row_of.Reads as row-of-reads
 use Rattle.records.proofs.read.Kinds as read-kinds
 use Rattle.records.proofs.read.Reads as read-reads
 use Rattle.records.proofs.pack.Kinds as pack-kinds
 use Rattle.records.proofs.pack.Reads as pack-reads
-
-pub row-of-determined : One-result 0 row-of-kinds.ps row-of-kinds.r row-of-reads.Post
-row-of-determined κs a x y s t p q = p ∙ sym q
 
 pub read-determined : One-result 1 read-kinds.ps read-kinds.r read-reads.Post
 read-determined κs a x y s t p q = p ∙ sym q

@@ -9,11 +9,11 @@ use Rattle.model.specs.Refusals.{refused, granted, _>>_, _>>=_}
 use Rattle.model.specs.Records.{Call, well-formed, head, head-bytes, write, record-length, packing, packed}
 use Rattle.laws.proofs.Copies.{paste-behind}
 use Rattle.invariants.proofs.Accepted.{accepted-fits}
-use Rattle.records.specs.declared.faults.Numbers.{Numbers}
+use Rattle.fields.specs.declared.Numbers.{Numbers}
 use Rattle.records.specs.declared.Packing.the-variants.{Length, Refused}
-use Rattle.records.specs.Given.{given, fault-of, Head-fits, joined-head}
+use Rattle.fields.specs.Given.{given, fault-of, Head-fits, joined-head}
 use Rattle.records.specs.Packing.{answered, Packs}
-use Rattle.records.proofs.FieldTests.{fault-refuses, no-fault}
+use Rattle.fields.proofs.FieldTests.{fault-refuses, no-fault}
 
 module _ (c : Call) (d : List ℕ) where
   pub packs-refused : (k : ℕ) → well-formed c ≡ refused k → Packs c d (Refused k) d

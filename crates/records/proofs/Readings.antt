@@ -12,11 +12,11 @@ use Rattle.model.specs.Words.{bits}
 use Rattle.model.specs.Records as model
 use Rattle.model.specs.Records.{fields-from, head-of, fields, asked, short, taken, well-formed}
 use Rattle.invariants.proofs.Records.{Whole, whole-not-short, whole-taken}
-use Rattle.records.specs.declared.faults.Numbers.{Numbers}
+use Rattle.fields.specs.declared.Numbers.{Numbers}
 use Rattle.records.specs.declared.Reading.the-variants.{Accepted, Refused}
-use Rattle.records.specs.Given.{given, numbers-in, fault-of}
+use Rattle.fields.specs.Given.{given, numbers-in, fault-of}
 use Rattle.records.specs.Reading.{fields-at, fields-of, answered, reading}
-use Rattle.records.proofs.FieldTests.{fault-refuses, no-fault}
+use Rattle.fields.proofs.FieldTests.{fault-refuses, no-fault}
 
 -- TOO FEW BYTES
 

@@ -1,4 +1,2 @@
-pub mod Rows
-pub mod Given
 pub mod Reading
 pub mod Packing

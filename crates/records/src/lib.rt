@@ -5,15 +5,10 @@ ghost use Prim.Native.Nat.{_+_, _≤_, _<_};
 ghost use lib.ListN.{length, drop};
 ghost use lib.Seq.{paste};
 ghost use Rattle.model.specs.Records.{write};
-ghost use Rattle.records.specs.Given.{given, Writes};
+ghost use Rattle.fields.specs.Given.{given, Writes};
 ghost use Rattle.records.specs.Reading.{fields-at, reading};
 ghost use Rattle.records.specs.Packing.{called, Packs};
-
-mod faults;
-mod heads;
-pub mod table;
-
-use faults::Numbers;
+use fields::Numbers;
 use heads::HEAD_LENGTH;
 
 const TOO_SHORT: u8 = 17;
@@ -69,7 +64,7 @@ pub fn read(bytes: &[u8]) -> Reading
         };
     }
     let numbers = heads::numbers_of(head);
-    let number = faults::fault(numbers, &bytes[HEAD_LENGTH..middle], &bytes[middle..taken]);
+    let number = fields::fault(numbers, &bytes[HEAD_LENGTH..middle], &bytes[middle..taken]);
     if number != 0 {
         return Reading::Refused { number, taken };
     }
@@ -116,7 +111,7 @@ pub fn pack(
         argument: argument,
         zeros: 0,
     };
-    let number = faults::fault(numbers, path1, path2);
+    let number = fields::fault(numbers, path1, path2);
     if number != 0 {
         return Packing::Refused(number);
     }

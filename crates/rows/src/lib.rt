@@ -8,6 +8,21 @@ ghost use Rattle.model.specs.Words.{bytes, unpack};
 ghost use Rattle.rows.specs.Blocks.{block-of, same-block, word-from};
 ghost use Rattle.rows.specs.Stands.{Stands, entry-row, node-row, hold-row, process-row};
 
+// Where the rows of each table start, the entries at the front, and how many words a row has; a process has one.
+pub const NODES_START: usize = 2560;
+
+pub const HOLDS_START: usize = 6912;
+
+pub const PROCESSES_START: usize = 8448;
+
+pub const WORD_COUNT: usize = 8512;
+
+pub const ENTRY_WIDTH: usize = 5;
+
+pub const NODE_WIDTH: usize = 17;
+
+pub const HOLD_WIDTH: usize = 6;
+
 // A name block: its four words.
 pub struct Block {
     pub first: u32,
@@ -147,21 +162,21 @@ pub fn entry_directory(words: &[u32], row: usize) -> u16
     requires { ⌜ (Stands (now words)) × (row < 512) ⌝ }
     ensures { λ r. ⌜ r ≡ entry-row (now (words .entry)) row .place .directory ⌝ }
 {
-    upper_half(words[row * 5])
+    upper_half(words[row * ENTRY_WIDTH])
 }
 
 pub fn entry_node(words: &[u32], row: usize) -> u16
     requires { ⌜ (Stands (now words)) × (row < 512) ⌝ }
     ensures { λ r. ⌜ r ≡ entry-row (now (words .entry)) row .node ⌝ }
 {
-    lower_half(words[row * 5])
+    lower_half(words[row * ENTRY_WIDTH])
 }
 
 pub fn entry_name(words: &[u32], row: usize) -> Block
     requires { ⌜ (Stands (now words)) × (row < 512) ⌝ }
     ensures { λ r. ⌜ r ≡ block-of (entry-row (now (words .entry)) row .place .name) ⌝ }
 {
-    block_at(words, row * 5 + 1)
+    block_at(words, row * ENTRY_WIDTH + 1)
 }
 
 // NODES, by row; node n is row n - 1
@@ -170,21 +185,21 @@ pub fn kind_in(words: &[u32], row: usize) -> u8
     requires { ⌜ (Stands (now words)) × (row < 256) ⌝ }
     ensures { λ r. ⌜ r ≡ node-row (now (words .entry)) row .kind ⌝ }
 {
-    top_bits(words[2560 + row * 17])
+    top_bits(words[NODES_START + row * NODE_WIDTH])
 }
 
 pub fn count_in(words: &[u32], row: usize) -> u16
     requires { ⌜ (Stands (now words)) × (row < 256) ⌝ }
     ensures { λ r. ⌜ r ≡ node-row (now (words .entry)) row .count ⌝ }
 {
-    count_bits(words[2560 + row * 17])
+    count_bits(words[NODES_START + row * NODE_WIDTH])
 }
 
 pub fn target_length_in(words: &[u32], row: usize) -> usize
     requires { ⌜ (Stands (now words)) × (row < 256) ⌝ }
     ensures { λ r. ⌜ r ≡ length (node-row (now (words .entry)) row .target) ⌝ }
 {
-    length_bits(words[2560 + row * 17])
+    length_bits(words[NODES_START + row * NODE_WIDTH])
 }
 
 fn byte_of(word: u32, place: u32) -> u8
@@ -218,7 +233,7 @@ pub fn target_in(words: &[u32], row: usize) -> Target
 {
     Target {
         length: target_length_in(words, row),
-        bytes: bytes_at(words, 2560 + row * 17 + 1),
+        bytes: bytes_at(words, NODES_START + row * NODE_WIDTH + 1),
     }
 }
 
@@ -258,28 +273,28 @@ pub fn hold_directory(words: &[u32], row: usize) -> u16
     requires { ⌜ (Stands (now words)) × (row < 256) ⌝ }
     ensures { λ r. ⌜ r ≡ hold-row (now (words .entry)) row .place .directory ⌝ }
 {
-    upper_half(words[6912 + row * 6])
+    upper_half(words[HOLDS_START + row * HOLD_WIDTH])
 }
 
 pub fn hold_process(words: &[u32], row: usize) -> u16
     requires { ⌜ (Stands (now words)) × (row < 256) ⌝ }
     ensures { λ r. ⌜ r ≡ hold-row (now (words .entry)) row .process ⌝ }
 {
-    lower_half(words[6912 + row * 6])
+    lower_half(words[HOLDS_START + row * HOLD_WIDTH])
 }
 
 pub fn hold_name(words: &[u32], row: usize) -> Block
     requires { ⌜ (Stands (now words)) × (row < 256) ⌝ }
     ensures { λ r. ⌜ r ≡ block-of (hold-row (now (words .entry)) row .place .name) ⌝ }
 {
-    block_at(words, 6912 + row * 6 + 1)
+    block_at(words, HOLDS_START + row * HOLD_WIDTH + 1)
 }
 
 pub fn hold_role(words: &[u32], row: usize) -> u8
     requires { ⌜ (Stands (now words)) × (row < 256) ⌝ }
     ensures { λ r. ⌜ r ≡ hold-row (now (words .entry)) row .role ⌝ }
 {
-    top_bits(words[6912 + row * 6 + 5])
+    top_bits(words[HOLDS_START + row * HOLD_WIDTH + 5])
 }
 
 // PROCESSES
@@ -288,12 +303,12 @@ pub fn process_number(words: &[u32], row: usize) -> u16
     requires { ⌜ (Stands (now words)) × (row < 64) ⌝ }
     ensures { λ r. ⌜ r ≡ process-row (now (words .entry)) row .number ⌝ }
 {
-    upper_half(words[8448 + row])
+    upper_half(words[PROCESSES_START + row])
 }
 
 pub fn process_user(words: &[u32], row: usize) -> u16
     requires { ⌜ (Stands (now words)) × (row < 64) ⌝ }
     ensures { λ r. ⌜ r ≡ process-row (now (words .entry)) row .user ⌝ }
 {
-    lower_half(words[8448 + row])
+    lower_half(words[PROCESSES_START + row])
 }

@@ -27,7 +27,7 @@ use rows::same_blocks;
 // PROCESSES
 
 // The row of a process, 64 where it is not listed.
-pub fn find_process(words: &[u32], process: u16) -> usize
+fn find_process(words: &[u32], process: u16) -> usize
     requires { ⌜ Stands (now words) ⌝ }
     ensures { λ r. ⌜ r ≡ first (is-process process) 0 (unpack (now (words .entry)) .processes) ⌝ }
 {

@@ -1,6 +1,3 @@
-pub mod Accepting
-pub mod Arms
-pub mod Judging
-pub mod Walking
+pub mod Verdicts
 pub mod Demands
 pub mod Determined

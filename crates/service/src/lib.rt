@@ -1,17 +1,11 @@
 // The service: one record served over lent tables. Document 01, 'Numbers given back'.
 ghost use mathlib.Core.Path.{_≡_};
 ghost use Rattle.model.specs.Serve.{judged};
-ghost use Rattle.records.specs.Reading.{reading, taken-of};
+ghost use Rattle.records.specs.Reading.{reading};
 ghost use Rattle.calls.specs.Meets.{Meets};
-ghost use Rattle.service.specs.Ready.{cut-short};
 ghost use Rattle.service.specs.Serves.{Serves};
-
-mod creations;
-mod dispatch;
-mod looks;
-mod removals;
-mod walks;
-
+use accepted::is_cut_short;
+use accepted::taken_of;
 use dispatch::dispatch;
 use model::Answer;
 use model::Verdict;
@@ -31,27 +25,6 @@ pub fn serve(words: &mut [u32], record: &[u8]) -> Verdict
     let taken = taken_of(found);
     let answer = judge(words, record, found);
     Verdict { answer, taken }
-}
-
-fn taken_of(found: Reading) -> usize
-    ensures { λ r. ⌜ r ≡ taken-of found ⌝ }
-{
-    match found {
-        Reading::Accepted { fields: _, taken } => taken,
-        Reading::Refused { number: _, taken } => taken,
-    }
-}
-
-fn is_cut_short(found: Reading) -> bool
-    ensures { λ r. ⌜ r ≡ cut-short found ⌝ }
-{
-    match found {
-        Reading::Accepted {
-            fields: _,
-            taken: _,
-        } => false,
-        Reading::Refused { number, taken: _ } => number == TOO_SHORT,
-    }
 }
 
 // Too few bytes come before the test of the tables, and that before all else that reading found.

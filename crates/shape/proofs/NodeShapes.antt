@@ -5,6 +5,7 @@ use mathlib.Core.List.{List, [], _∷_, _++_}
 use Prim.Native.Nat.{ℕ, zero, suc, _+_, _*_, _/_, _%_, _≤_, _<_}
 use native.Mathlib.Omega.{arith}
 use borrow.Author.Tests.{eqb-true, eq-eqb, ne-eqb, leb-true, le-leb, lt-leb}
+use lib.Bits.{bitOr, or-add-and, and-le-l, and-le-r}
 use lib.Dec.{eqb, leb}
 use lib.ListN.{length, getD, take, drop, replicate, length-take, length-drop, drop-of-length-le}
 use lib.Seq.{length-take-le, getD-take, getD-drop}
@@ -13,7 +14,7 @@ use Rattle.model.specs.Paths.{valid-target}
 use Rattle.model.specs.Tables.{Node, no-node, free-node}
 use Rattle.model.specs.Words.{bits, words, bytes, pack-node, unpack-node}
 use Rattle.model.specs.Sound.{target-fits}
-use Rattle.laws.proofs.Bools.{and-false, and-left, and-right, both, is-false}
+use Rattle.laws.proofs.Bools.{and-false, and-left, and-right, both, is-false, and-true, and-joins}
 use Rattle.laws.proofs.Each.{Each, each-take, each-by-place}
 use Rattle.laws.proofs.Loops.{rest-at}
 use Rattle.laws.proofs.Pieces.{Word, bits-within, bits-join, bits-whole, same-equal, equal-same, bytes-length, bytes-are-bytes, bytes-of-words, words-of-bytes, filled-length, filled-bytes}
@@ -32,42 +33,40 @@ zeros-same (t ∷ ts) = go (eqb t 0) (zeros-same ts)
     go true e = e
     go false e = refl
 
--- words are zeros where their sum is 0
-unfoldable pub total : List ℕ → ℕ
-total [] = 0
-total (x ∷ s) = x + total s
-
-total-zeros : (s : List ℕ) → eqb (total s) 0 ≡ zeros s
-unfolding total zeros all
-total-zeros [] = refl
-total-zeros (x ∷ s) =
+-- numbers joined bit by bit are 0 where both are
+joined-zero : (a b : ℕ) → eqb (bitOr a b) 0 ≡ (eqb a 0 && eqb b 0)
+joined-zero a b =
+    let sum = or-add-and a b in
+    let left = and-le-l a b in
+    let right = and-le-r a b in
     same-when _ _
-    (λ e. let z = eqb-true (x + total s) 0 e in
-    both (eq-eqb x 0 (omega arith)) (sym (total-zeros s) ∙ eq-eqb (total s) 0 (omega arith)))
-    (λ e. let z = eqb-true x 0 (and-left (eqb x 0) _ e) in
-    let y = eqb-true (total s) 0 (total-zeros s ∙ and-right (eqb x 0) (zeros s) e) in
-    eq-eqb (x + total s) 0 (omega arith))
+    (λ e. let z = eqb-true (bitOr a b) 0 e in both (eq-eqb a 0 (omega arith)) (eq-eqb b 0 (omega arith)))
+    (λ e. let y = eqb-true a 0 (and-left (eqb a 0) (eqb b 0) e) in
+    let z = eqb-true b 0 (and-right (eqb a 0) (eqb b 0) e) in
+    eq-eqb (bitOr a b) 0 (omega arith))
 
--- what is added so far and what is left make the whole
+-- what is joined so far and what is left are zeros where the whole is
 module _ (w : List ℕ) (at : ℕ) (inside : at + 16 ≤ length w) where
-  sixteen-long : length (take 16 (drop at w)) ≡ 16
+  abbrev sixteen : List ℕ
+  sixteen = take 16 (drop at w)
+
+  sixteen-long : length sixteen ≡ 16
   sixteen-long = length-take-le 16 (drop at w) (omega (arith, length-drop at w))
 
-  pub total-onward : (sum : ℕ) {k : ℕ} → k < 16 → sum + total (drop k (take 16 (drop at w))) ≡ total (take 16 (drop at w))
-      → sum + getD w (at + k) 0 + total (drop (k + 1) (take 16 (drop at w))) ≡ total (take 16 (drop at w))
-  unfolding total
-  total-onward sum {k} h e =
-      let x : getD (take 16 (drop at w)) k 0 ≡ getD w (at + k) 0 = getD-take 16 (drop at w) k 0 h ∙ getD-drop at w k 0 in
-      let t : total (drop k (take 16 (drop at w))) ≡ getD (take 16 (drop at w)) k 0 + total (drop (k + 1) (take 16 (drop at w)))
-      = ap total (rest-at 0 (take 16 (drop at w)) k (omega (arith, sixteen-long))) in
-      omega arith
+  pub zeros-onward : (joined : ℕ) {k : ℕ} → k < 16 → (eqb joined 0 && zeros (drop k sixteen)) ≡ zeros sixteen
+      → (eqb (bitOr joined (getD w (at + k) 0)) 0 && zeros (drop (k + 1) sixteen)) ≡ zeros sixteen
+  unfolding zeros all
+  zeros-onward joined {k} h e =
+      let x : getD sixteen k 0 ≡ getD w (at + k) 0 = getD-take 16 (drop at w) k 0 h ∙ getD-drop at w k 0 in
+      ap (λ b. b && zeros (drop (k + 1) sixteen)) (joined-zero joined (getD w (at + k) 0))
+      ∙ sym (and-joins (eqb joined 0) (eqb (getD w (at + k) 0) 0) (zeros (drop (k + 1) sixteen)))
+      ∙ ap (λ y. eqb joined 0 && (eqb y 0 && zeros (drop (k + 1) sixteen))) (sym x)
+      ∙ ap (λ l. eqb joined 0 && zeros l) (sym (rest-at 0 sixteen k (omega (arith, sixteen-long)))) ∙ e
 
-  pub total-done : (sum : ℕ) {k : ℕ} → 16 ≤ k → sum + total (drop k (take 16 (drop at w))) ≡ total (take 16 (drop at w)) → eqb sum 0 ≡ zeros (take 16 (drop at w))
-  unfolding total
-  total-done sum {k} h e =
-      let d : total (drop k (take 16 (drop at w))) ≡ 0 = ap total (drop-of-length-le (take 16 (drop at w)) {i = k} (omega (arith, sixteen-long))) in
-      let s : sum ≡ total (take 16 (drop at w)) = omega arith in
-      ap (λ x. eqb x 0) s ∙ total-zeros (take 16 (drop at w))
+  pub zeros-done : (joined : ℕ) {k : ℕ} → 16 ≤ k → (eqb joined 0 && zeros (drop k sixteen)) ≡ zeros sixteen → eqb joined 0 ≡ zeros sixteen
+  unfolding zeros all
+  zeros-done joined {k} h e =
+      sym (and-true (eqb joined 0)) ∙ ap (λ l. eqb joined 0 && zeros l) (sym (drop-of-length-le sixteen {i = k} (omega (arith, sixteen-long)))) ∙ e
 
 filled-zeros : (t : List ℕ) (m k : ℕ) → zeros (drop (length t) (take m (t ++ replicate k 0))) ≡ true
 unfolding zeros all
@@ -85,14 +84,6 @@ zeros-filled zero (x ∷ s) (suc k) h l e =
     ap₂ _∷_ (sym (eqb-true x 0 (and-left (eqb x 0) _ e))) (zeros-filled zero s k (omega arith) (omega arith) (and-right (eqb x 0) _ e))
 zeros-filled (suc n) [] k h l e = absurd (omega arith)
 zeros-filled (suc n) (x ∷ s) k h l e = ap (λ t. x ∷ t) (zeros-filled n s k (omega arith) (omega arith) e)
-
-and-true : (a : Bool) → (a && true) ≡ a
-and-true true = refl
-and-true false = refl
-
-regroup : (a b c : Bool) → (a && (b && c)) ≡ ((a && b) && c)
-regroup true b c = refl
-regroup false b c = refl
 
 some-taken : (n : ℕ) (s : List ℕ) → (n ≡ 0 → ⊥) → 1 ≤ length s → empty (take n s) ≡ false
 unfolding empty
@@ -230,7 +221,7 @@ module _ (h : ℕ) (ts : List ℕ) (small : h < 4294967296) (sixteen : length ts
     pub link-is : Each Word ts → h / 1073741824 ≡ 3 → h % 8192 ≡ 0 → link-fits (bytes ts) count ≡ node-shaped (h ∷ ts)
     unfolding link-fits
     link-is words-small three low =
-        regroup (leb count 64) (zeros (drop count (bytes ts))) (valid-target (take count (bytes ts)))
+        and-joins (leb count 64) (zeros (drop count (bytes ts))) (valid-target (take count (bytes ts)))
         ∙ sym (used-shape ∙ ap₂ _&&_ (link-words words-small low) (link-target three))
 
 -- A LINK'S BYTES

@@ -1,7 +1,7 @@
 -- The rows of all tables tested are the tables tested. Assumes nothing.
-use mathlib.Core.Path.{_≡_, refl, sym, ap, ap₂, _∙_}
+use mathlib.Core.Path.{_≡_, sym, ap, ap₂, _∙_}
 use mathlib.Core.Bool.{Bool, true, false, _&&_, _||_}
-use mathlib.Core.List.{List, [], _∷_, map}
+use mathlib.Core.List.{List, [], _∷_}
 use Prim.Native.Nat.{ℕ, zero, suc, _+_, _*_, _≤_, _<_}
 use native.Mathlib.Omega.{arith}
 use borrow.Rule.Slice.PartMut.{midOf}
@@ -12,6 +12,9 @@ use Rattle.model.specs.Paths.{valid-name}
 use Rattle.model.specs.Tables.{free-entry, free-node, free-hold}
 use Rattle.model.specs.Words.{pack-entry, unpack-entry, pack-node, unpack-node, pack-hold, unpack-hold, pack-process, unpack-process, pack, unpack}
 use Rattle.model.specs.Sound.{each-used, exact, names-valid, roles-valid, targets-valid, target-fits}
+use Rattle.laws.proofs.AllRows.{all-both, all-alike}
+use Rattle.laws.proofs.AllRows.{all-map}
+use Rattle.laws.proofs.Bools.{or-and}
 use Rattle.laws.proofs.Bools.{and-left, and-right, both, is-false}
 use Rattle.laws.proofs.Each.{Each, none, one, each-by-place, each-passes, passes-each}
 use Rattle.laws.proofs.Pieces.{same-equal, equal-same, pieces-length}
@@ -34,32 +37,6 @@ process-piece w row l r =
     row-piece 1 64 8448 w row r ∙ ap (λ m. take 1 (drop m w)) n ∙ first-word 0 (8448 + row) w (omega arith)
 
 -- TESTS OF ALL ROWS
-
-pub or-and : (a b c : Bool) → (a || (b && c)) ≡ ((a || b) && (a || c))
-or-and true b c = refl
-or-and false b c = refl
-
-module _ {A : Type 0} where
-  pub all-both : (f g : A → Bool) (xs : List A) → all (λ x. f x && g x) xs ≡ (all f xs && all g xs)
-  unfolding all
-  all-both f g [] = refl
-  all-both f g (x ∷ xs) = ap (λ b. (f x && g x) && b) (all-both f g xs) ∙ middle (f x) (g x) (all f xs) (all g xs)
-    where
-      middle : (a b c d : Bool) → ((a && b) && (c && d)) ≡ ((a && c) && (b && d))
-      middle true true c d = refl
-      middle true false true d = refl
-      middle true false false d = refl
-      middle false b c d = refl
-
-  pub all-alike : (f g : A → Bool) → ((x : A) → f x ≡ g x) → (xs : List A) → all f xs ≡ all g xs
-  unfolding all
-  all-alike f g h [] = refl
-  all-alike f g h (x ∷ xs) = ap₂ _&&_ (h x) (all-alike f g h xs)
-
-all-map : {A B : Type 0} (u : A → B) (f : B → Bool) (xs : List A) → all f (map u xs) ≡ all (λ x. f (u x)) xs
-unfolding all
-all-map u f [] = refl
-all-map u f (x ∷ xs) = ap (λ b. f (u x) && b) (all-map u f xs)
 
 -- a part is just its rows where the words of each row are
 module _ {A : Type 0} (u : List ℕ → A) (f : A → List ℕ) (n k : ℕ) (wide : (x : A) → length (f x) ≡ k) (a : ℕ) (w : List ℕ) (h : a + n * k ≤ length w) where

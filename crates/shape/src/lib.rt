@@ -11,16 +11,28 @@ ghost use Rattle.shape.specs.Shaped.{entry-shaped, node-shaped, hold-sha
 use names::is_good_name;
 use paths::valid_target;
 use rows::Block;
+use rows::ENTRY_WIDTH;
+use rows::HOLD_WIDTH;
+use rows::HOLDS_START;
+use rows::NODE_WIDTH;
+use rows::NODES_START;
+use rows::PROCESSES_START;
+use rows::WORD_COUNT;
 use rows::block_at;
 use rows::bytes_at;
 use rows::length_bits;
 use rows::top_bits;
 
+// The words of the two roles, in the top bits.
+const END_ROLE: u32 = 1073741824;
+
+const ELEMENT_ROLE: u32 = 2147483648;
+
 // Whether there are 8,512 words, each row just the words of what it holds, with valid names, roles and targets.
 pub fn is_shaped(words: &[u32]) -> bool
     ensures { λ r. ⌜ r ≡ shaped (now (words .entry)) ⌝ }
 {
-    if words.len() != 8512 {
+    if words.len() != WORD_COUNT {
         return false;
     }
     if !entries_shaped(words) {
@@ -83,7 +95,7 @@ fn processes_shaped(words: &[u32]) -> bool
 {
     let mut row = 0;
     while row < 64 {
-        if !process_shaped(words[8448 + row]) {
+        if !process_shaped(words[PROCESSES_START + row]) {
             return false;
         }
         row += 1;
@@ -95,8 +107,8 @@ fn entry_shaped(words: &[u32], row: usize) -> bool
     requires { ⌜ (length (now words) ≡ 8512) × (row < 512) ⌝ }
     ensures { λ r. ⌜ r ≡ entry-shaped (take 5 (drop (row * 5) (now (words .entry)))) ⌝ }
 {
-    let head = words[row * 5];
-    let name = block_at(words, row * 5 + 1);
+    let head = words[row * ENTRY_WIDTH];
+    let name = block_at(words, row * ENTRY_WIDTH + 1);
     if head < 65536 {
         return is_blank(head, name, 0);
     }
@@ -107,9 +119,9 @@ fn hold_shaped(words: &[u32], row: usize) -> bool
     requires { ⌜ (length (now words) ≡ 8512) × (row < 256) ⌝ }
     ensures { λ r. ⌜ r ≡ hold-shaped (take 6 (drop (6912 + row * 6) (now (words .entry)))) ⌝ }
 {
-    let head = words[6912 + row * 6];
-    let name = block_at(words, 6912 + row * 6 + 1);
-    let role = words[6912 + row * 6 + 5];
+    let head = words[HOLDS_START + row * HOLD_WIDTH];
+    let name = block_at(words, HOLDS_START + row * HOLD_WIDTH + 1);
+    let role = words[HOLDS_START + row * HOLD_WIDTH + 5];
     if head < 65536 {
         return is_blank(head, name, role);
     }
@@ -132,10 +144,10 @@ fn process_shaped(word: u32) -> bool
 fn is_role(word: u32) -> bool
     ensures { λ r. ⌜ r ≡ (eqb word 1073741824 || eqb word 2147483648) ⌝ }
 {
-    if word == 1073741824 {
+    if word == END_ROLE {
         return true;
     }
-    word == 2147483648
+    word == ELEMENT_ROLE
 }
 
 fn is_blank(head: u32, name: Block, tail: u32) -> bool
@@ -154,45 +166,39 @@ fn node_shaped(words: &[u32], row: usize) -> bool
     requires { ⌜ (length (now words) ≡ 8512) × (row < 256) ⌝ }
     ensures { λ r. ⌜ r ≡ node-shaped (take 17 (drop (2560 + row * 17) (now (words .entry)))) ⌝ }
 {
-    let head = words[2560 + row * 17];
+    let head = words[NODES_START + row * NODE_WIDTH];
     let kind = top_bits(head);
     if kind == 0 {
         if head != 0 {
             return false;
         }
-        return all_zeros(words, 2560 + row * 17 + 1);
+        return all_zeros(words, NODES_START + row * NODE_WIDTH + 1);
     }
     if head % 8192 != 0 {
         return false;
     }
     let count = length_bits(head);
     if kind == 3 {
-        return link_shaped(words, 2560 + row * 17 + 1, count);
+        return link_shaped(words, NODES_START + row * NODE_WIDTH + 1, count);
     }
     if count != 0 {
         return false;
     }
-    all_zeros(words, 2560 + row * 17 + 1)
+    all_zeros(words, NODES_START + row * NODE_WIDTH + 1)
 }
 
-fn wide(x: u32) -> u64
-    ensures { λ r. ⌜ r ≡ x ⌝ }
-{
-    x as u64
-}
-
-// Whether the 16 words from `at` on are zeros: their sum is quicker than a test of each.
+// Whether the 16 words from `at` on are zeros: they are joined bit by bit, which is quicker than a test of each.
 fn all_zeros(words: &[u32], at: usize) -> bool
     requires { ⌜ at + 16 ≤ length (now words) ⌝ }
     ensures { λ r. ⌜ r ≡ zeros (take 16 (drop at (now (words .entry)))) ⌝ }
 {
-    let mut sum: u64 = 0;
+    let mut joined: u32 = 0;
     let mut k = 0;
     while k < 16 {
-        sum += wide(words[at + k]);
+        joined = joined | words[at + k];
         k += 1;
     }
-    sum == 0
+    joined == 0
 }
 
 fn link_shaped(words: &[u32], at: usize, count: usize) -> bool

@@ -10,8 +10,9 @@ ghost use Rattle.soundness.specs.Groups.{tree-rules, hold-rules};
 use hold_pairs::ends_agree;
 use hold_pairs::holds_apart;
 use hold_rules::holds_placed;
-use hold_rules::processes_apart;
+use hold_rules::used_hold_rows;
 use index::index_entries;
+use process_index::index_processes;
 use shape::is_shaped;
 use tree_rules::tree_right;
 
@@ -46,14 +47,25 @@ fn keeps_rules(words: &[u32]) -> bool
     if !tree_right(words) {
         return false;
     }
-    if !processes_apart(words) {
+    keeps_hold_rules(words)
+}
+
+// The rules on holds go by an index of the processes.
+fn keeps_hold_rules(words: &[u32]) -> bool
+    requires { ⌜ Stands (now words) ⌝ }
+    ensures { λ r. ⌜ r ≡ hold-rules (unpack (now (words .entry))) ⌝ }
+{
+    let mut heads = [0u16; 127];
+    let mut next = [0u16; 64];
+    if !index_processes(words, &mut heads, &mut next) {
         return false;
     }
-    if !holds_placed(words) {
+    let rows = used_hold_rows(words);
+    if !holds_placed(words, &heads, &next, rows) {
         return false;
     }
-    if !holds_apart(words) {
+    if !holds_apart(words, rows) {
         return false;
     }
-    ends_agree(words)
+    ends_agree(words, &heads, &next, rows)
 }

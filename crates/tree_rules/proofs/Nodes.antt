@@ -13,10 +13,11 @@ use Rattle.model.specs.Lists.{all, count}
 use Rattle.model.specs.Tables.{Entry, Node, no-entry, free-entry, free-node, node-at, is-directory}
 use Rattle.model.specs.Sound.{each-used, entries-in-directories, entries-lead-to-nodes, leading-to, first-node-right, count-fits}
 use Rattle.model.specs.Words.{unpack}
+use Rattle.laws.proofs.AllRows.{all-both, all-alike}
+use Rattle.laws.proofs.Bools.{or-and}
 use Rattle.laws.proofs.Loops.{count-here, count-onward, count-done}
 use Rattle.rows.specs.Stands.{entry-row}
 use Rattle.rows.proofs.Parts.{entries-full}
-use Rattle.shape.proofs.Whole.{all-both, all-alike, or-and}
 use Rattle.tree_rules.specs.Tallied.{Tallied}
 
 -- AN ENTRY
@@ -59,7 +60,7 @@ pub record Counting (w counts : List ℕ) (i : ℕ) : Type 0 where
   pub inside : i ≤ 512
   pub long : length counts ≡ 257
   pub low : (n : ℕ) → n < 257 → getD counts n 0 ≤ i
-  pub rest : (n : ℕ) → n < 257 → getD counts n 0 + count (leads-to n) (drop i (unpack w .entries)) ≡ leading-to (unpack w .entries) n
+  pub rest : (n : ℕ) → 0 < n → n < 257 → getD counts n 0 + count (leads-to n) (drop i (unpack w .entries)) ≡ leading-to (unpack w .entries) n
 
 module _ (w counts : List ℕ) where
   pub counting-starts : counts ≡ replicate 257 0 → Counting w counts 0
@@ -69,22 +70,22 @@ module _ (w counts : List ℕ) where
         inside = omega arith;
         long = ap length e ∙ length-replicate {A = ℕ} 257 0;
         low = λ n h. omega (arith, zeros n h);
-        rest = λ n h. ap (λ x. x + count (leads-to n) (unpack w .entries)) (zeros n h) ∙ omega arith;
+        rest = λ n _ h. ap (λ x. x + count (leads-to n) (unpack w .entries)) (zeros n h) ∙ omega arith;
       }
     where
       zeros : (n : ℕ) → n < 257 → getD counts n 0 ≡ 0
       zeros n h = ap (λ x. getD x n 0) e ∙ getD-replicate 257 n 0 0 h
 
   module _ {i v : ℕ} (g : Counting w counts i) (r : i < 512) (f : v ≡ entry-row w i .node) where
-    -- a node that no table has
-    pub counting-past : 257 ≤ v → Counting w counts (i + 1)
+    -- no node, or one that no table has
+    pub counting-past : ((n : ℕ) → 0 < n → n < 257 → v ≡ n → ⊥) → Counting w counts (i + 1)
     counting-past o =
         record {
           inside = omega arith;
           long = g .long;
           low = λ n h. omega (arith, g .low n h);
-          rest = λ n h. count-onward (leads-to n) no-entry (unpack w .entries) i (getD counts n 0) (omega (arith, entries-full w))
-              (ne-eqb (entry-row w i .node) n (λ q. let z : ⊥ = omega arith in z)) (g .rest n h);
+          rest = λ n u h. count-onward (leads-to n) no-entry (unpack w .entries) i (getD counts n 0) (omega (arith, entries-full w))
+              (ne-eqb (entry-row w i .node) n (λ q. o n u h (f ∙ q))) (g .rest n u h);
         }
 
     pub counting-more : v < 257 → Counting w (set counts v (getD counts v 0 + 1)) (i + 1)
@@ -97,11 +98,11 @@ module _ (w counts : List ℕ) where
             | yes q ↦ omega (arith, ap (λ x. getD (set counts v (getD counts v 0 + 1)) x 0) q, getD-set-same counts v (getD counts v 0 + 1) 0 l, g .low v h)
             | no q ↦ omega (arith, getD-set-other counts v n (getD counts v 0 + 1) 0 q, g .low n a)
           ];
-          rest = λ n a. elim (ℕ-discrete n v) [
+          rest = λ n u a. elim (ℕ-discrete n v) [
             | yes q ↦ ap (λ x. x + count (leads-to n) (drop (i + 1) (unpack w .entries))) (ap (λ x. getD (set counts v (getD counts v 0 + 1)) x 0) q ∙ getD-set-same counts v (getD counts v 0 + 1) 0 l ∙ ap (λ x. getD counts x 0 + 1) (sym q))
-                ∙ count-here (leads-to n) no-entry (unpack w .entries) i (getD counts n 0) (omega (arith, entries-full w)) (eq-eqb (entry-row w i .node) n (sym f ∙ sym q)) (g .rest n a)
+                ∙ count-here (leads-to n) no-entry (unpack w .entries) i (getD counts n 0) (omega (arith, entries-full w)) (eq-eqb (entry-row w i .node) n (sym f ∙ sym q)) (g .rest n u a)
             | no q ↦ ap (λ x. x + count (leads-to n) (drop (i + 1) (unpack w .entries))) (getD-set-other counts v n (getD counts v 0 + 1) 0 q)
-                ∙ count-onward (leads-to n) no-entry (unpack w .entries) i (getD counts n 0) (omega (arith, entries-full w)) (ne-eqb (entry-row w i .node) n (λ y. q (sym y ∙ sym f))) (g .rest n a)
+                ∙ count-onward (leads-to n) no-entry (unpack w .entries) i (getD counts n 0) (omega (arith, entries-full w)) (ne-eqb (entry-row w i .node) n (λ y. q (sym y ∙ sym f))) (g .rest n u a)
           ];
         }
 
@@ -109,12 +110,12 @@ module _ (w counts : List ℕ) where
   counting-ends {i} g h =
       record {
         long = g .long;
-        right = λ n a. count-done (leads-to n) no-entry (unpack w .entries) i (getD counts n 0) (omega (arith, entries-full w)) (g .rest n a);
+        right = λ n u a. count-done (leads-to n) no-entry (unpack w .entries) i (getD counts n 0) (omega (arith, entries-full w)) (g .rest n u a);
       }
 
 -- what was counted for a row's node
 pub counted : (w counts : List ℕ) (row : ℕ) → Tallied w counts → row < 256 → getD counts (row + 1) 0 ≡ leading-to (unpack w .entries) (1 + row)
-counted w counts row t h = let e : row + 1 ≡ 1 + row = omega arith in t .right (row + 1) (omega arith) ∙ ap (leading-to (unpack w .entries)) e
+counted w counts row t h = let e : row + 1 ≡ 1 + row = omega arith in t .right (row + 1) (omega arith) (omega arith) ∙ ap (leading-to (unpack w .entries)) e
 
 -- A NODE'S COUNT
 

@@ -8,4 +8,4 @@ use Rattle.model.specs.Sound.{leading-to}
 
 pub record Tallied (w counts : List ℕ) : Type 0 where
   pub long : length counts ≡ 257
-  pub right : (n : ℕ) → n < 257 → getD counts n 0 ≡ leading-to (unpack w .entries) n
+  pub right : (n : ℕ) → 0 < n → n < 257 → getD counts n 0 ≡ leading-to (unpack w .entries) n

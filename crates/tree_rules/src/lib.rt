@@ -93,8 +93,11 @@ fn tally(words: &[u32], counts: &mut [u16; 257])
     let mut row = 0;
     while row < 512 {
         let node = wide(entry_node(words, row));
-        if node < 257 {
-            counts[node] = one_more(counts[node]);
+        // the many free rows lead to no node, and would all wait for the one count
+        if node != 0 {
+            if node < 257 {
+                counts[node] = one_more(counts[node]);
+            }
         }
         row += 1;
     }

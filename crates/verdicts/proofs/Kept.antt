@@ -8,9 +8,9 @@ use lib.ListN.{length, take, drop, set, getD, length-take, length-drop}
 use lib.Seq.{sets, getD-set-other, getD-drop, length-take-le}
 use Rattle.io.specs.Counts.{Counts}
 use Rattle.listing.specs.declared.Part.{Part}
-use Rattle.listing.specs.Puts.{Puts}
+use Rattle.lines.specs.Puts.{Puts}
 use Rattle.listing.specs.Parts.{filled, list-part}
-use Rattle.listing.proofs.Runs.{puts-next, puts-length}
+use Rattle.lines.proofs.Runs.{puts-next, puts-length}
 use Rattle.listing.proofs.PartFacts.{answered-facts}
 
 -- what stands behind the bytes that were put is as it was

@@ -2,7 +2,7 @@
 ghost use Prim.Native.Nat.{_-_, _≤_};
 ghost use lib.ListN.{length, take, drop};
 ghost use Rattle.io.specs.Counts.{Counts};
-ghost use Rattle.listing.specs.Puts.{Puts};
+ghost use Rattle.lines.specs.Puts.{Puts};
 use libc::STDERR_FILENO;
 use libc::STDIN_FILENO;
 use libc::STDOUT_FILENO;

@@ -1,5 +1,6 @@
 -- `exports::tickbutton_serve` meets its contract: what serving ensures, told as a number. Assumes nothing.
 use mathlib.Core.Path.{_∙_}
+use native.Mathlib.Omega.{arith}
 use Rattle.model.specs.Answers.{number-of}
 use Rattle.exports.specs.Numbers.{word-number}
 use Rattle.exports.proofs.Served.{few-taken, answer-told}
@@ -17,7 +18,7 @@ cast-told : tie.Need-cast-told
 cast-told c = search needs
 
 told-requires : tie.Need-told-requires
-told-requires c κs = (search needs, search needs, few-taken (c .before .before .before .before .before .serve .ensures))
+told-requires c κs = (search needs, search needs, omega (arith, few-taken (c .before .before .before .before .before .serve .ensures)))
 
 enum-known-answer-2 : tie.Need-enum-known-answer-2
 enum-known-answer-2 c = search needs
@@ -26,7 +27,7 @@ cast-told-2 : tie.Need-cast-told-2
 cast-told-2 c = search needs
 
 told-requires-2 : tie.Need-told-requires-2
-told-requires-2 c κs = (search needs, search needs, few-taken (c .before .before .before .before .before .serve .ensures))
+told-requires-2 c κs = (search needs, search needs, omega (arith, few-taken (c .before .before .before .before .before .serve .ensures)))
 
 enum-known-answer-3 : tie.Need-enum-known-answer-3
 enum-known-answer-3 c = search needs
@@ -35,7 +36,7 @@ cast-told-3 : tie.Need-cast-told-3
 cast-told-3 c = search needs
 
 told-requires-3 : tie.Need-told-requires-3
-told-requires-3 c κs = (search needs, search needs, few-taken (c .before .before .before .before .before .serve .ensures))
+told-requires-3 c κs = (search needs, search needs, omega (arith, few-taken (c .before .before .before .before .before .serve .ensures)))
 
 enum-known-answer-4 : tie.Need-enum-known-answer-4
 enum-known-answer-4 c = search needs
@@ -44,7 +45,7 @@ cast-told-4 : tie.Need-cast-told-4
 cast-told-4 c = search needs
 
 told-requires-4 : tie.Need-told-requires-4
-told-requires-4 c κs = (search needs, search needs, few-taken (c .before .before .before .before .before .serve .ensures))
+told-requires-4 c κs = (search needs, search needs, omega (arith, few-taken (c .before .before .before .before .before .serve .ensures)))
 
 same-length : tie.Need-same-length
 same-length c = search needs

@@ -25,11 +25,11 @@ hold-process-requires c κs = search needs
 returns-3 : tie.Need-returns-3
 returns-3 c = of-no-process (unpack (c .before .before .before .before .before .before .before .args .words .now) .nodes) (unpack (c .before .before .before .before .before .before .before .args .words .now) .processes) (hold-row (c .before .before .before .before .before .before .before .args .words .now) (c .before .before .before .before .before .before .before .args .row)) (c .before .before .before .before .before .hold-directory .ensures) (c .before .before .before .before .if1 .left) (c .before .before .before .node-kind .ensures) (c .before .before .if2 .left) (c .before .hold-process .ensures) (c .if3 .taken)
 
-is-listed-requires : tie.Need-is-listed-requires
-is-listed-requires c κs = search needs
+is-in-index-requires : tie.Need-is-in-index-requires
+is-in-index-requires c κs = search needs
 
 returns-4 : tie.Need-returns-4
-returns-4 c = of-listed (unpack (c .before .before .before .before .before .before .before .before .args .words .now) .nodes) (unpack (c .before .before .before .before .before .before .before .before .args .words .now) .processes) (hold-row (c .before .before .before .before .before .before .before .before .args .words .now) (c .before .before .before .before .before .before .before .before .args .row)) (c .before .before .before .before .before .before .hold-directory .ensures) (c .before .before .before .before .before .if1 .left) (c .before .before .before .before .node-kind .ensures) (c .before .before .before .if2 .left) (c .before .before .hold-process .ensures) (c .before .if3 .left) (c .is-listed .ensures)
+returns-4 c = of-listed (unpack (c .before .before .before .before .before .before .before .before .args .words .now) .nodes) (unpack (c .before .before .before .before .before .before .before .before .args .words .now) .processes) (hold-row (c .before .before .before .before .before .before .before .before .args .words .now) (c .before .before .before .before .before .before .before .before .args .row)) (c .before .before .before .before .before .before .hold-directory .ensures) (c .before .before .before .before .before .if1 .left) (c .before .before .before .before .node-kind .ensures) (c .before .before .before .if2 .left) (c .before .before .hold-process .ensures) (c .before .if3 .left) (c .is-in-index .ensures)
 
 pub hold-placed-spec : {M : Type 1} → statement M
 hold-placed-spec =
@@ -41,5 +41,5 @@ hold-placed-spec =
     returns-2
     hold-process-requires
     returns-3
-    is-listed-requires
+    is-in-index-requires
     returns-4)

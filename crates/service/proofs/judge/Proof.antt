@@ -4,7 +4,7 @@ use native.Mathlib.Omega.{arith}
 use borrow.Author.Needs.{needs}
 use Rattle.laws.proofs.Bools.{not-false}
 use Rattle.laws.proofs.Each.{each-by-place}
-use Rattle.service.proofs.Judging.{judged-broken, judged-call, judged-short, judged-unsound}
+use Rattle.accepted.proofs.Judging.{judged-broken, judged-call, judged-short, judged-unsound}
 use Rattle.service.proofs.judge.Statement.{statement}
 use Rattle.service.proofs.judge.Tie as tie
 

@@ -3,7 +3,7 @@ use mathlib.Core.Path.{_∙_, ap}
 use borrow.Author.Needs.{needs}
 use Rattle.records.proofs.ThereAndBack.{reading-takes}
 use Rattle.records.specs.Reading.{taken-of}
-use Rattle.service.proofs.Judging.{serves-by}
+use Rattle.service.proofs.Verdicts.{serves-by}
 use Rattle.service.proofs.serve.Statement.{statement}
 use Rattle.service.proofs.serve.Tie as tie
 

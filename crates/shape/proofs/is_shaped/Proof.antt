@@ -1,8 +1,7 @@
 -- `shape::is_shaped` meets its contract: table after table. Assumes nothing.
 use mathlib.Core.Path.{sym, _∙_}
 use borrow.Author.Needs.{needs}
-use Rattle.laws.proofs.Bools.{not-true, not-false}
-use Rattle.names.proofs.Fits.{stopped, passed}
+use Rattle.laws.proofs.Bools.{not-true, not-false, stopped, passed}
 use Rattle.shape.proofs.Whole.{wrong-length, all-shaped}
 use borrow.Author.Needs.{needs}
 use Rattle.shape.proofs.is_shaped.Statement.{statement}

@@ -1,8 +1,7 @@
 -- `tree_rules::tree_right` meets its contract: rule after rule. Assumes nothing.
 use mathlib.Core.Path.{sym, _∙_}
 use borrow.Author.Needs.{needs}
-use Rattle.laws.proofs.Bools.{not-true, not-false}
-use Rattle.names.proofs.Fits.{stopped, passed}
+use Rattle.laws.proofs.Bools.{not-true, not-false, stopped, passed}
 use borrow.Author.Needs.{needs}
 use Rattle.tree_rules.proofs.tree_right.Statement.{statement}
 use Rattle.tree_rules.proofs.tree_right.Tie as tie

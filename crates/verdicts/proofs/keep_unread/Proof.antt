@@ -4,8 +4,8 @@ use Prim.Native.Nat.{_+_, _-_, _≤_}
 use native.Mathlib.Omega.{arith}
 use denote.Ref.{now}
 use lib.ListN.{take, drop}
-use Rattle.listing.specs.Puts.{Puts}
-use Rattle.listing.proofs.Runs.{puts-none, puts-length}
+use Rattle.lines.specs.Puts.{Puts}
+use Rattle.lines.proofs.Runs.{puts-none, puts-length}
 use Rattle.verdicts.proofs.Kept.{put-next, put-all, kept-fits}
 use Rattle.verdicts.proofs.keep_unread.Statement.{statement}
 use Rattle.verdicts.proofs.keep_unread.Tie as tie

@@ -4,7 +4,7 @@ use borrow.Author.Needs.{needs}
 use Rattle.model.specs.Calls.{fork}
 use Rattle.model.specs.Words.{unpack}
 use Rattle.calls.proofs.Meeting.{grants, passes, refuses}
-use Rattle.calls.proofs.Rows.{forked, two-processes}
+use Rattle.calls.proofs.Forking.{forked, two-processes}
 use Rattle.calls.proofs.fork.fork.Statement.{statement}
 use Rattle.calls.proofs.fork.fork.Tie as tie
 

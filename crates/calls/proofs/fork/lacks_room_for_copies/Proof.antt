@@ -1,6 +1,6 @@
 -- `calls::fork::lacks_room_for_copies` meets its contract: as many copies as the parent has holds. Assumes nothing.
 use borrow.Author.Needs.{needs}
-use Rattle.calls.proofs.Rows.{copies-room}
+use Rattle.calls.proofs.Forking.{copies-room}
 use Rattle.calls.proofs.fork.lacks_room_for_copies.Statement.{statement}
 use Rattle.calls.proofs.fork.lacks_room_for_copies.Tie as tie
 

@@ -1,0 +1,5 @@
+pub mod Accepting
+pub mod Asking
+pub mod Cells
+pub mod Judging
+pub mod Walking

@@ -1,0 +1,60 @@
+// Calls 5 to 7 behind their walk: check, look and use.
+ghost use mathlib.Core.Bool.{not, _&&_};
+ghost use mathlib.Core.Path.{_≡_};
+ghost use Rattle.model.specs.Calls.{absent, look-at};
+ghost use Rattle.model.specs.Holds.{root, end-held};
+ghost use Rattle.model.specs.Words.{unpack};
+ghost use Rattle.rows.specs.Stands.{Stands};
+ghost use Rattle.goals.specs.Goals.{goal-of, Walk-named};
+ghost use Rattle.plans.specs.Plans.{Walk-used};
+ghost use Rattle.calls.specs.Meets.{Meets};
+use goals::Walk;
+use goals::is_absent;
+use goals::node_of;
+use holds::drop_preempted;
+use holds::end_held;
+use holds::is_root;
+use model::Answer;
+use plans::add_planned;
+use plans::lacks_room;
+use plans::plan_holds;
+
+fn is_missing(required: bool, walk: Walk) -> bool
+    ensures { λ r. ⌜ r ≡ required && absent (goal-of walk) ⌝ }
+{
+    if required {
+        return is_absent(walk);
+    }
+    false
+}
+
+// Another user has the end hold, and the caller is not root.
+fn is_seen(words: &[u32], process: u16, walk: Walk) -> bool
+    requires { ⌜ (Stands (now words)) × (Walk-named walk) ⌝ }
+    ensures { λ r. ⌜ r ≡ end-held (unpack (now (words .entry))) process (goal-of walk) && not (root (unpack (now (words .entry))) process) ⌝ }
+{
+    if is_root(words, process) {
+        return false;
+    }
+    end_held(words, process, walk)
+}
+
+pub fn look_at(words: &mut [u32], process: u16, walk: Walk, required: bool) -> Answer
+    requires { ⌜ (Stands (now words)) × ((Walk-named walk) × (Walk-used walk)) ⌝ }
+    ensures { λ r. ⌜ Meets (now (words .entry)) (look-at required (unpack (now (words .entry))) process (goal-of walk)) r (now (words .exit)) ⌝ }
+{
+    if is_missing(required, walk) {
+        return Answer::Refused(10);
+    }
+    let node = node_of(walk);
+    if is_seen(words, process, walk) {
+        return Answer::Seen(node);
+    }
+    let plan = plan_holds(words, process, walk);
+    if lacks_room(words, plan) {
+        return Answer::Refused(16);
+    }
+    drop_preempted(words, process, walk);
+    add_planned(words, plan);
+    Answer::Held(node)
+}

@@ -1,0 +1,1 @@
+// Proofs alone: the cases that document 01 marks P.

@@ -1,0 +1,3 @@
+pub mod TableRows
+pub mod FieldTests
+pub mod Determined

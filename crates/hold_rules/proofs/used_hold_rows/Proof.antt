@@ -1,0 +1,50 @@
+-- `hold_rules::used_hold_rows` meets its contract: rows are passed from the last on while they are free. Assumes nothing.
+use Rattle.hold_rules.proofs.Used.{Free-from, free-from-starts, free-from-below, last-used, none-used}
+use borrow.Author.Needs.{needs}
+use Rattle.hold_rules.proofs.used_hold_rows.Statement.{statement}
+use Rattle.hold_rules.proofs.used_hold_rows.Tie as tie
+
+abbrev Inv-loop : tie.InvT-loop
+Inv-loop words rows₀ rows = Free-from words rows
+
+abbrev μ-loop : tie.MeasureT-loop
+μ-loop words rows₀ rows = rows
+
+loop-holds : tie.Need-loop-holds Inv-loop μ-loop
+loop-holds c = free-from-starts (c .before .args .words .now)
+
+sub-hold-directory : tie.Need-sub-hold-directory Inv-loop μ-loop
+sub-hold-directory c = search needs
+
+hold-directory-requires : tie.Need-hold-directory-requires Inv-loop μ-loop
+hold-directory-requires c κs = search needs
+
+returns : tie.Need-returns Inv-loop μ-loop
+returns c = last-used (c .before .before .before .before .before .args .words .now) (c .before .before .before .loop .inv) (c .before .before .loop-test .taken) (c .before .hold-directory .ensures) (c .if1 .taken)
+
+sub-rows : tie.Need-sub-rows Inv-loop μ-loop
+sub-rows c = search needs
+
+loop-less : tie.Need-loop-less Inv-loop μ-loop
+loop-less c = search needs
+
+loop-again : tie.Need-loop-again Inv-loop μ-loop
+loop-again c = free-from-below (c .before .before .before .before .before .args .words .now) (c .before .before .before .loop .inv) (c .before .before .loop-test .taken) (c .before .hold-directory .ensures) (c .if1 .left)
+
+returns-2 : tie.Need-returns-2 Inv-loop μ-loop
+returns-2 c = none-used (c .before .before .before .args .words .now) (c .before .loop .inv) (c .loop-test .left)
+
+pub used-hold-rows-spec : {M : Type 1} → statement M
+used-hold-rows-spec =
+    tie.close
+    (tie.spec
+    Inv-loop
+    μ-loop
+    loop-holds
+    sub-hold-directory
+    hold-directory-requires
+    returns
+    sub-rows
+    loop-less
+    loop-again
+    returns-2)

@@ -1,0 +1,3 @@
+pub mod Digits
+pub mod LineBytes
+pub mod Runs

@@ -1,0 +1,96 @@
+// The processes found by number without a scan: chains of rows by bucket in two arrays that the caller lends. The index is stale after a
+// write to the processes.
+ghost use mathlib.Core.Path.{_≡_};
+ghost use mathlib.Core.Bool.{true};
+ghost use Prim.Native.Nat.{_≤_, _<_, _%_};
+ghost use lib.ListN.{replicate};
+ghost use Rattle.model.specs.Sound.{processes-distinct};
+ghost use Rattle.model.specs.Tables.{listed, user-of};
+ghost use Rattle.model.specs.Words.{unpack};
+ghost use Rattle.rows.specs.Stands.{Stands};
+ghost use Rattle.index.specs.Buckets.{last-below};
+ghost use Rattle.index.specs.Descent.{Descent};
+ghost use Rattle.process_index.specs.Processes.{process-used, process-bucket, row-of, Processes-indexed};
+use rows::process_number;
+use rows::process_user;
+
+// Whether the listed processes differ in number; and where they do, their index.
+pub fn index_processes(words: &[u32], heads: &mut [u16; 127], next: &mut [u16; 64]) -> bool
+    requires { ⌜ (Stands (now words)) × ((now heads ≡ replicate 127 0) × (now next ≡ replicate 64 0)) ⌝ }
+    ensures { λ r. ⌜ (r ≡ processes-distinct (unpack (now (words .entry)))) × (r ≡ true → Processes-indexed (now (words .entry)) (now (heads .exit)) (now (next .exit))) ⌝ }
+{
+    let mut row = 0;
+    while row < 64 {
+        let number = process_number(words, row);
+        if number != 0 {
+            let bucket = bucket_of(number);
+            let from = heads[bucket];
+            if last_of(words, next, from, number, row) != 0 {
+                return false;
+            }
+            next[row] = from;
+            heads[bucket] = (row + 1) as u16;
+        }
+        row += 1;
+    }
+    true
+}
+
+pub fn is_in_index(words: &[u32], heads: &[u16; 127], next: &[u16; 64], process: u16) -> bool
+    requires { ⌜ (Processes-indexed (now words) (now heads) (now next)) × (process ≡ 0 → ⊥) ⌝ }
+    ensures { λ r. ⌜ r ≡ listed (unpack (now (words .entry)) .processes) process ⌝ }
+{
+    find_in_index(words, heads, next, process) != 0
+}
+
+// The user of a process, 0 where it is not listed.
+pub fn user_in_index(words: &[u32], heads: &[u16; 127], next: &[u16; 64], process: u16) -> u16
+    requires { ⌜ Processes-indexed (now words) (now heads) (now next) ⌝ }
+    ensures { λ r. ⌜ r ≡ user-of (unpack (now (words .entry)) .processes) process ⌝ }
+{
+    if process == 0 {
+        return 0;
+    }
+    let found = find_in_index(words, heads, next, process);
+    if found == 0 {
+        return 0;
+    }
+    process_user(words, found - 1)
+}
+
+// One more than the row of a process, 0 for none.
+fn find_in_index(words: &[u32], heads: &[u16; 127], next: &[u16; 64], process: u16) -> usize
+    requires { ⌜ (Processes-indexed (now words) (now heads) (now next)) × (process ≡ 0 → ⊥) ⌝ }
+    ensures { λ r. ⌜ r ≡ last-below (row-of (now (words .entry)) process) 64 ⌝ }
+{
+    let bucket = bucket_of(process);
+    last_of(words, next, heads[bucket], process, 64)
+}
+
+fn bucket_of(process: u16) -> usize
+    ensures { λ r. ⌜ (r ≡ process % 127) × (r < 127) ⌝ }
+{
+    (process % 127) as usize
+}
+
+// A link as a row plus 1.
+pub fn wide(x: u16) -> usize
+    ensures { λ r. ⌜ r ≡ x ⌝ }
+{
+    x as usize
+}
+
+// One more than the last row below `limit` with the number, along its chain; 0 for none.
+fn last_of(words: &[u32], next: &[u16; 64], from: u16, process: u16, limit: usize) -> usize
+    requires { ⌜ (Stands (now words)) × ((limit ≤ 64) × (Descent (process-used (now words)) (process-bucket (now words)) (row-of (now words) process) (now next) from (process % 127) limit)) ⌝ }
+    ensures { λ r. ⌜ r ≡ last-below (row-of (now (words .entry)) process) limit ⌝ }
+{
+    let mut found = wide(from);
+    while found != 0 {
+        if process_number(words, found - 1) == process {
+            return found;
+        }
+        found = wide(next[found - 1]);
+    }
+    0
+}

@@ -1,0 +1,26 @@
+-- `refusals::leads_to_directory` meets its contract: kind 2 is a directory. Assumes nothing.
+use mathlib.Core.Path.{_∙_, ap}
+use borrow.Author.Needs.{needs}
+use lib.Dec.{eqb}
+use Rattle.model.specs.Tables.{is-directory, node-at}
+use Rattle.model.specs.Words.{unpack}
+use Rattle.refusals.proofs.leads_to_directory.Statement.{statement}
+use Rattle.refusals.proofs.leads_to_directory.Tie as tie
+
+node-of-requires : tie.Need-node-of-requires
+node-of-requires c κs = search needs
+
+node-kind-requires : tie.Need-node-kind-requires
+node-kind-requires c κs = search needs
+
+returns : tie.Need-returns
+unfolding is-directory
+returns c = ap (λ k. eqb k 2) (c .node-kind .ensures) ∙ ap (λ n. eqb (node-at ((unpack (c .before .before .before .args .words .now)) .nodes) n .kind) 2) (c .before .node-of .ensures)
+
+pub leads-to-directory-spec : {M : Type 1} → statement M
+leads-to-directory-spec =
+    tie.close
+    (tie.spec
+    node-of-requires
+    node-kind-requires
+    returns)

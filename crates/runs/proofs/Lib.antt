@@ -1,0 +1,4 @@
+pub mod Onward
+pub mod Keeping
+pub mod Known
+pub mod Determined

@@ -1,0 +1,4 @@
+pub mod AnySplit
+pub mod Listings
+pub mod PartCalls
+pub mod Rests

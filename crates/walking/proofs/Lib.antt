@@ -1,0 +1,3 @@
+pub mod Stored
+pub mod Reached
+pub mod Determined
