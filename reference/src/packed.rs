@@ -18,7 +18,8 @@ pub struct PackedName {
 impl PackedName {
     /// Takes a name block out of 4 words.
     fn read(words: &[u32]) -> PackedName {
-        let block = bytes_of(words);
+        let mut block = [0; NAME_WORDS * 4];
+        read_bytes(words, &mut block);
         let mut bytes = [0; NAME_BYTES];
         bytes.copy_from_slice(&block[1..=NAME_BYTES]);
         PackedName { length: block[0], bytes, zero_bits: block[NAME_BYTES + 1] }
@@ -26,7 +27,10 @@ impl PackedName {
 
     /// Puts the name block into 4 words.
     fn write(&self, words: &mut [u32]) {
-        let block = [&[self.length], &self.bytes[..], &[self.zero_bits]].concat();
+        let mut block = [0; NAME_WORDS * 4];
+        block[0] = self.length;
+        block[1..=NAME_BYTES].copy_from_slice(&self.bytes);
+        block[NAME_BYTES + 1] = self.zero_bits;
         write_bytes(&block, words);
     }
 
@@ -140,9 +144,11 @@ pub const END: u32 = 1;
 /// The value of the role field for an element hold.
 pub const ELEMENT: u32 = 2;
 
-/// The bytes of words in the order of their bits.
-fn bytes_of(words: &[u32]) -> Vec<u8> {
-    words.iter().flat_map(|word| word.to_be_bytes()).collect()
+/// Takes the bytes of words in the order of their bits.
+fn read_bytes(words: &[u32], bytes: &mut [u8]) {
+    for (word, four) in words.iter().zip(bytes.chunks_exact_mut(4)) {
+        four.copy_from_slice(&word.to_be_bytes());
+    }
 }
 
 /// Puts bytes into words in the order of their bits.
@@ -171,7 +177,7 @@ fn read_entry(words: &[u32]) -> PackedEntry {
 /// Takes a node row out of its 17 words.
 fn read_node(words: &[u32]) -> PackedNode {
     let mut target = [0; TARGET_BYTES];
-    target.copy_from_slice(&bytes_of(&words[1..NODE_WORDS]));
+    read_bytes(&words[1..NODE_WORDS], &mut target);
     PackedNode {
         kind: words[0] >> 30,
         target_length: words[0] >> 23 & 0x7F,

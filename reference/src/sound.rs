@@ -1,6 +1,9 @@
 //! Heading 'The lent tables', its last paragraph: the rules of sound tables, one by one.
 
-use crate::limits::NAME_BYTES;
+use std::collections::{HashMap, HashSet};
+use std::hash::Hash;
+
+use crate::limits::{NAME_BYTES, NODE_ROWS};
 use crate::packed::{
     PackedEntry, PackedHold, PackedName, PackedNode, PackedProcess, PackedTables, DIRECTORY,
     ELEMENT, END, FILE, LINK,
@@ -136,8 +139,11 @@ fn kept(rule: Rule, tables: &PackedTables) -> bool {
         HoldZeroBits => holds(tables).all(|hold| hold.zero_bits == 0),
         EntryDirectory => entries(tables).all(|entry| kind(tables, entry.directory) == DIRECTORY),
         EntryNode => entries(tables).all(|entry| kind(tables, entry.node) != 0),
-        EntriesDistinct => all_distinct(&entries(tables).collect::<Vec<_>>(), same_entry),
-        EntryCount => nodes(tables).all(|(number, node)| node.entries == leading(tables, number)),
+        EntriesDistinct => all_distinct(entries(tables).map(|row| (row.directory, key(&row.name)))),
+        EntryCount => {
+            let leading = leading(tables);
+            nodes(tables).all(|(number, node)| node.entries == leading[usize::from(number)])
+        }
         FirstNodeDirectory => kind(tables, 1) == DIRECTORY,
         FirstNodeEntries => {
             directories(tables).all(|(number, node)| number != 1 || node.entries == 0)
@@ -156,9 +162,9 @@ fn kept(rule: Rule, tables: &PackedTables) -> bool {
         HoldRole => holds(tables).all(|hold| hold.role == END || hold.role == ELEMENT),
         HoldDirectory => holds(tables).all(|hold| kind(tables, hold.directory) == DIRECTORY),
         HoldProcess => holds(tables).all(|hold| user(tables, hold.process).is_some()),
-        HoldsDistinct => all_distinct(&holds(tables).collect::<Vec<_>>(), same_hold),
+        HoldsDistinct => all_distinct(holds(tables).map(|row| (place(row), row.process, row.role))),
         EndHoldsOfOneUser => end_holds_of_one_user(tables),
-        ProcessesDistinct => all_distinct(&processes(tables).collect::<Vec<_>>(), same_process),
+        ProcessesDistinct => all_distinct(processes(tables).map(|row| row.process)),
     }
 }
 
@@ -233,9 +239,15 @@ fn kind(tables: &PackedTables, number: u16) -> u32 {
     row.and_then(|row| tables.nodes.get(row)).map_or(0, |node| node.kind)
 }
 
-/// How many entries lead to a node.
-fn leading(tables: &PackedTables, number: u16) -> u32 {
-    entries(tables).filter(|entry| entry.node == number).count() as u32
+/// How many entries lead to each node number.
+fn leading(tables: &PackedTables) -> [u32; NODE_ROWS + 1] {
+    let mut counts = [0; NODE_ROWS + 1];
+    for entry in entries(tables) {
+        if let Some(count) = counts.get_mut(usize::from(entry.node)) {
+            *count += 1;
+        }
+    }
+    counts
 }
 
 /// The user of a listed process.
@@ -253,44 +265,28 @@ fn target_valid(node: &PackedNode) -> bool {
     node.whole_target().is_some_and(valid_target)
 }
 
-/// Whether two name blocks have the same name.
-fn same_name(one: &PackedName, other: &PackedName) -> bool {
-    one.length == other.length && one.name() == other.name()
+/// What tells two name blocks apart: the length and the name.
+fn key(name: &PackedName) -> (u8, &[u8]) {
+    (name.length, name.name())
 }
 
-/// Whether two entries share directory and name.
-fn same_entry(one: &PackedEntry, other: &PackedEntry) -> bool {
-    one.directory == other.directory && same_name(&one.name, &other.name)
+/// The directory and name on which a hold stands.
+fn place(hold: &PackedHold) -> (u16, (u8, &[u8])) {
+    (hold.directory, key(&hold.name))
 }
 
-/// Whether two holds share directory and name.
-fn same_place(one: &PackedHold, other: &PackedHold) -> bool {
-    one.directory == other.directory && same_name(&one.name, &other.name)
-}
-
-/// Whether two holds share directory, name, process and role.
-fn same_hold(one: &PackedHold, other: &PackedHold) -> bool {
-    one.process == other.process && one.role == other.role && same_place(one, other)
-}
-
-/// Whether two process rows share their number.
-fn same_process(one: &PackedProcess, other: &PackedProcess) -> bool {
-    one.process == other.process
-}
-
-/// Whether no two rows are the same, row against row.
-fn all_distinct<Row>(rows: &[&Row], same: fn(&Row, &Row) -> bool) -> bool {
-    (0..rows.len()).all(|place| rows[place + 1..].iter().all(|later| !same(rows[place], later)))
+/// Whether no two of them are the same.
+fn all_distinct<Key: Eq + Hash>(keys: impl Iterator<Item = Key>) -> bool {
+    let mut met = HashSet::new();
+    let mut keys = keys;
+    keys.all(|key| met.insert(key))
 }
 
 /// Whether end holds on one directory and name have one user; unlisted processes have none.
 fn end_holds_of_one_user(tables: &PackedTables) -> bool {
-    let with_user = holds(tables)
+    let mut users = HashMap::new();
+    let mut with_user = holds(tables)
         .filter(|hold| hold.role == END)
         .filter_map(|hold| Some((hold, user(tables, hold.process)?)));
-    let ends: Vec<(&PackedHold, u16)> = with_user.collect();
-    (0..ends.len()).all(|place| {
-        let (hold, owner) = ends[place];
-        ends[place + 1..].iter().all(|(later, other)| owner == *other || !same_place(hold, later))
-    })
+    with_user.all(|(hold, owner)| *users.entry(place(hold)).or_insert(owner) == owner)
 }

@@ -1,5 +1,7 @@
 //! The functions of the archive as they are, behind safe signatures.
 
+#![allow(unsafe_code)]
+
 use crate::Answer;
 
 extern "C" {
@@ -17,7 +19,28 @@ extern "C" {
         destination: *mut u8,
         room: usize,
     ) -> u64;
+    fn tickbutton_sound(words: *const u32, count: usize) -> u64;
+    fn tickbutton_walk(
+        words: *const u32,
+        count: usize,
+        path: *const u8,
+        length: usize,
+        follow_last: bool,
+        goal: *mut u32,
+    ) -> u64;
+    fn tickbutton_serve_run(
+        words: *mut u32,
+        count: usize,
+        bytes: *const u8,
+        length: usize,
+        answers: *mut u64,
+        room: usize,
+        taken: *mut u64,
+    ) -> u64;
 }
+
+/// How many numbers the goal of a walk has.
+pub const GOAL_NUMBERS: usize = 46;
 
 /// An answer and the bytes taken, as the archive tells them in one number: the answer's number in
 /// the lower 32 bits, its word in the two above, the bytes taken above those.
@@ -45,7 +68,14 @@ pub fn read(bytes: &[u8]) -> (Answer, usize, [u32; 6]) {
 
 /// Packs a call into the front of the destination: done with the record's length, or refused with
 /// 2, 3 or 18, and then nothing is written.
-pub fn pack(call: u32, process: u16, argument: u16, path1: &[u8], path2: &[u8], destination: &mut [u8]) -> Answer {
+pub fn pack(
+    call: u32,
+    process: u16,
+    argument: u16,
+    path1: &[u8],
+    path2: &[u8],
+    destination: &mut [u8],
+) -> Answer {
     // SAFETY: each slice is passed with its own length, and the destination alone is written.
     let told = unsafe {
         tickbutton_pack(
@@ -74,5 +104,63 @@ pub fn fresh(words: &mut [u32]) -> Answer {
 /// refusal changes no word.
 pub fn serve(words: &mut [u32], record: &[u8]) -> (Answer, usize) {
     // SAFETY: each slice is passed with its own length, and the words alone are written.
-    answer(unsafe { tickbutton_serve(words.as_mut_ptr(), words.len(), record.as_ptr(), record.len()) })
+    answer(unsafe {
+        tickbutton_serve(words.as_mut_ptr(), words.len(), record.as_ptr(), record.len())
+    })
+}
+
+/// Whether the words are sound tables: done with 0 where they are, else refused with 1.
+pub fn sound(words: &[u32]) -> Answer {
+    // SAFETY: the words are passed with their own count and are read alone.
+    answer(unsafe { tickbutton_sound(words.as_ptr(), words.len()) }).0
+}
+
+/// Walks a path over the words, a link at its last name too where that is asked: done with the
+/// node that it leads to, 0 for an absence, or refused with 1, 3, 7, 8 or 9. The goal becomes the
+/// number of elements, the end entry and the elements in the order met, each as its directory and
+/// the four words of its name block, and zeros behind them; where there is no end entry its words
+/// are zeros, and all are where the walk is refused.
+pub fn walk(
+    words: &[u32],
+    path: &[u8],
+    follow_last: bool,
+    goal: &mut [u32; GOAL_NUMBERS],
+) -> Answer {
+    // SAFETY: each slice is passed with its own length, and the goal's numbers alone are written.
+    answer(unsafe {
+        tickbutton_walk(
+            words.as_ptr(),
+            words.len(),
+            path.as_ptr(),
+            path.len(),
+            follow_last,
+            goal.as_mut_ptr(),
+        )
+    })
+    .0
+}
+
+/// Serves record after record over the words, as long as a whole one is left and a slot for its
+/// answer: how many were served and how many bytes they are. Each slot in front gets its record's
+/// answer, which `told_answer` reads; those behind stay. The tables are tested once.
+pub fn serve_run(words: &mut [u32], records: &[u8], answers: &mut [u64]) -> (usize, usize) {
+    let mut taken = 0;
+    // SAFETY: each slice is passed with its own length; words, answers and one number are written.
+    let served = unsafe {
+        tickbutton_serve_run(
+            words.as_mut_ptr(),
+            words.len(),
+            records.as_ptr(),
+            records.len(),
+            answers.as_mut_ptr(),
+            answers.len(),
+            &mut taken,
+        )
+    };
+    (served as usize, taken as usize)
+}
+
+/// The answer that a slot of `serve_run` holds.
+pub fn told_answer(slot: u64) -> Answer {
+    answer(slot).0
 }

@@ -1,20 +1,40 @@
-//! The proved name guard, for Rust programs. What each function gives is proved of the code in
-//! the archive (crates/exports); that it is declared right here is not, so the declarations stand
-//! in one place, the module `archive`.
+//! The proved name guard, for Rust programs.
+//!
+//! A [`Service`] owns its tables and answers one [`Call`] after another: granted as *held*, *seen*
+//! or *done* with a number ([`Granted`]), or refused with one of eighteen reasons ([`Refusal`]).
+//!
+//! ```
+//! use tickbutton::{Call, Granted, Refusal, Service};
+//!
+//! # fn main() -> Result<(), Refusal> {
+//! let mut service = Service::new();
+//! service.call(&Call::Enter { process: 20, user: 500 })?;
+//! service.call(&Call::Enter { process: 30, user: 600 })?;
+//! let held = service.call(&Call::Check { process: 20, path: "/fox".into() })?;
+//! assert_eq!(held, Granted::Held(0));
+//! let refused = service.call(&Call::Create { process: 30, path: "/fox".into() });
+//! assert_eq!(refused, Err(Refusal::HeldByAnother));
+//! # Ok(())
+//! # }
+//! ```
+//!
+//! What each function of the archive gives is proved of its code (crates/exports). That it is
+//! declared right here is not, so the declarations stand in one place, the module [`archive`]; what
+//! else is here is tested.
 
+#![deny(unsafe_code)]
 #![warn(missing_docs)]
 
+mod answers;
 pub mod archive;
+mod calls;
+mod refusals;
+mod service;
+pub mod tables;
+mod text;
 
-/// What a call answers.
-#[derive(Clone, Copy, Debug, PartialEq, Eq)]
-pub enum Answer {
-    /// The name is held for the caller's user: the node it leads to, 0 for an absence.
-    Held(u32),
-    /// Another user holds the name: the node it leads to, 0 for an absence.
-    Seen(u32),
-    /// The call was made: a node, a process, or a length.
-    Done(u32),
-    /// The call was not made, and nothing changed: the number of the reason.
-    Refused(u32),
-}
+pub use answers::{Answer, Granted};
+pub use calls::{Call, LONGEST_RECORD};
+pub use refusals::Refusal;
+pub use service::Service;
+pub use text::{shown, NoCall};

@@ -5,11 +5,13 @@ mod aim;
 mod brim;
 mod broken_tables;
 mod damage;
+mod linked_tables;
 mod random;
 mod sound_tables;
 mod traces;
 
 pub use broken_tables::{broken_tables, flip_bits, some_breakable};
+pub use linked_tables::{linked_tables, LinkedTables};
 pub use random::Random;
 pub use sound_tables::sound_tables;
 pub use traces::{Mode, Trace, MODES};

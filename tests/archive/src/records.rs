@@ -55,7 +55,14 @@ fn one_reading(bytes: &[u8]) -> Result<Answer, String> {
         Err((number, taken)) => (Answer::Refused(number), taken, [0; 6]),
         Ok((call, taken)) => {
             let first = call.path1.len() as u32;
-            let numbers = [u32::from(call.process), u32::from(call.argument), 7, first, 7 + first, call.path2.len() as u32];
+            let numbers = [
+                u32::from(call.process),
+                u32::from(call.argument),
+                7,
+                first,
+                7 + first,
+                call.path2.len() as u32,
+            ];
             let number = reference::records::number_of_name(call.name) as u32;
             (Answer::Done(number), taken, numbers)
         }
@@ -75,16 +82,21 @@ fn one_packing(random: &mut Random) -> Result<Answer, String> {
     let process = if random.percent(3) { 0 } else { random.below(65_536) as u16 };
     let argument = if call <= 2 || random.percent(3) { random.below(65_536) as u16 } else { 0 };
     let path1 = if call <= 4 && random.percent(95) { Vec::new() } else { some_path(random, true) };
-    let path2 = if call == 11 || call == 10 || random.percent(3) { some_path(random, call == 11) } else { Vec::new() };
+    let path2 = if call == 11 || call == 10 || random.percent(3) {
+        some_path(random, call == 11)
+    } else {
+        Vec::new()
+    };
     let most = if random.percent(50) { 40 } else { 600 };
     let size = random.below(most);
     let mut destination: Vec<u8> = (0..size).map(|_| random.below(256) as u8).collect();
     let mut expected_destination = destination.clone();
     let answer = archive::pack(call, process, argument, &path1, &path2, &mut destination);
-    let expected = match pack(u64::from(call), process, argument, &path1, &path2, &mut expected_destination) {
-        Ok(length) => Answer::Done(length as u32),
-        Err(number) => Answer::Refused(number),
-    };
+    let expected =
+        match pack(u64::from(call), process, argument, &path1, &path2, &mut expected_destination) {
+            Ok(length) => Answer::Done(length as u32),
+            Err(number) => Answer::Refused(number),
+        };
     if answer == expected && destination == expected_destination {
         return Ok(answer);
     }

@@ -1,6 +1,8 @@
 //! Serving against the reference: answer, bytes taken and every word after each call.
 
-use reference::generate::{broken_tables, flip_bits, some_breakable, sound_tables, Mode, Random, Trace, MODES};
+use reference::generate::{
+    broken_tables, flip_bits, some_breakable, sound_tables, Mode, Random, Trace, MODES,
+};
 use reference::Tables;
 use tickbutton::{archive, Answer};
 
@@ -44,7 +46,7 @@ fn one_trace(mode: Mode, seed: u64, calls: usize, tally: &mut Tally) -> Result<(
 }
 
 /// Random tables: mostly sound, some with one rule broken or some bits flipped, some of another length.
-fn some_words(random: &mut Random) -> Vec<u32> {
+pub fn some_words(random: &mut Random) -> Vec<u32> {
     let mut words = sound_tables(random).pack();
     match random.below(6) {
         0 => {
@@ -66,8 +68,7 @@ fn one_call(words: &mut Vec<u32>, record: &[u8]) -> Result<Answer, String> {
     let mut expected_words = before.clone();
     let (answer, taken) = archive::serve(words, record);
     let (expected, expected_taken) = reference::serve(&mut expected_words, record);
-    let same = (answer_word(answer), answer_number(answer), taken) == (expected.word(), expected.number(), expected_taken);
-    if same && *words == expected_words {
+    if same_answer(answer, expected) && taken == expected_taken && *words == expected_words {
         return Ok(answer);
     }
     Err(format!(
@@ -75,6 +76,11 @@ fn one_call(words: &mut Vec<u32>, record: &[u8]) -> Result<Answer, String> {
         reference::text::line(record),
         *words == expected_words
     ))
+}
+
+/// Whether the archive and the reference answered the same.
+pub fn same_answer(answer: Answer, expected: reference::Answer) -> bool {
+    (answer_word(answer), answer_number(answer)) == (expected.word(), expected.number())
 }
 
 fn answer_word(answer: Answer) -> &'static str {
@@ -88,7 +94,10 @@ fn answer_word(answer: Answer) -> &'static str {
 
 fn answer_number(answer: Answer) -> u32 {
     match answer {
-        Answer::Held(number) | Answer::Seen(number) | Answer::Done(number) | Answer::Refused(number) => number,
+        Answer::Held(number)
+        | Answer::Seen(number)
+        | Answer::Done(number)
+        | Answer::Refused(number) => number,
     }
 }
 

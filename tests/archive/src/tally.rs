@@ -1,6 +1,7 @@
 //! How often each answer came.
 
 use std::collections::BTreeMap;
+use std::fmt;
 
 use tickbutton::Answer;
 
@@ -22,15 +23,33 @@ impl Tally {
         *self.counts.entry(name).or_default() += 1;
     }
 
+    /// The counts of another tally too.
+    pub fn add(&mut self, other: &Tally) {
+        for (name, count) in &other.counts {
+            *self.counts.entry(name.clone()).or_default() += count;
+        }
+    }
+
     /// Prints the counts; an error where one of the expected came fewer times than asked.
     pub fn report(&self, title: &str, expected: &[String], least: usize) -> Result<(), String> {
         println!("{title}: {:?}", self.counts);
-        let rare: Vec<&String> = expected.iter().filter(|name| self.counts.get(*name).copied().unwrap_or(0) < least).collect();
+        let rare: Vec<&String> = expected
+            .iter()
+            .filter(|name| self.counts.get(*name).copied().unwrap_or(0) < least)
+            .collect();
         if rare.is_empty() {
             Ok(())
         } else {
             Err(format!("{title}: came fewer than {least} times: {rare:?}"))
         }
+    }
+}
+
+impl fmt::Display for Tally {
+    fn fmt(&self, out: &mut fmt::Formatter<'_>) -> fmt::Result {
+        let counts: Vec<String> =
+            self.counts.iter().map(|(name, count)| format!("{name}: {count}")).collect();
+        out.write_str(&counts.join(", "))
     }
 }
 
