@@ -2,17 +2,45 @@
 
 use std::time::Instant;
 
-const ROUNDS: usize = 25;
+/// Something to measure: its name, what one run of it does, and how many things one run does.
+pub struct Work {
+    pub name: String,
+    pub things: u32,
+    run: Box<dyn FnMut()>,
+}
 
-/// Nanoseconds that one call takes: the best round of so many calls each.
-pub fn nanoseconds(calls: u32, mut work: impl FnMut()) -> f64 {
-    let mut best = f64::MAX;
-    for _ in 0..ROUNDS {
-        let began = Instant::now();
-        for _ in 0..calls {
-            work();
-        }
-        best = best.min(began.elapsed().as_nanos() as f64 / f64::from(calls));
+impl Work {
+    pub fn new(name: impl Into<String>, run: impl FnMut() + 'static) -> Work {
+        Work { name: name.into(), things: 1, run: Box::new(run) }
     }
-    best
+
+    /// The same, where one run does so many things and the time of one is asked.
+    pub fn each_of(self, things: u32) -> Work {
+        Work { things, ..self }
+    }
+
+    pub fn repeat(&mut self, times: u32) {
+        for _ in 0..times {
+            (self.run)();
+        }
+    }
+
+    /// Nanoseconds that one thing takes: the best of so many rounds of so many runs each.
+    pub fn nanoseconds(&mut self, rounds: u32, runs: u32) -> f64 {
+        let mut best = f64::MAX;
+        for _ in 0..rounds {
+            let began = Instant::now();
+            self.repeat(runs);
+            best = best.min(began.elapsed().as_nanos() as f64);
+        }
+        best / f64::from(runs * self.things)
+    }
+}
+
+/// What is measured together: the first is what the others are held against.
+pub struct Group {
+    pub name: &'static str,
+    pub rounds: u32,
+    pub runs: u32,
+    pub works: Vec<Work>,
 }

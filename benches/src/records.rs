@@ -4,9 +4,7 @@ use std::hint::black_box;
 
 use tickbutton::archive;
 
-use crate::clock::nanoseconds;
-
-const CALLS: u32 = 20_000;
+use crate::clock::{Group, Work};
 
 /// The link call with two paths of 255 bytes: 517 bytes in all.
 fn longest() -> (Vec<u8>, Vec<u8>) {
@@ -21,20 +19,27 @@ fn checksum(bytes: &[u8]) -> u64 {
     bytes.iter().fold(0, |sum: u64, byte| sum.wrapping_mul(31).wrapping_add(u64::from(*byte)))
 }
 
-/// Prints the rows of the table.
-pub fn measure() {
+pub fn group() -> Group {
     let (path, record) = longest();
+    let summed = record.clone();
     let mut destination = vec![0; 517];
-    let loop_over = nanoseconds(CALLS, || {
-        black_box(checksum(black_box(&record)));
-    });
-    let read = nanoseconds(CALLS, || {
-        black_box(archive::read(black_box(&record)));
-    });
-    let pack = nanoseconds(CALLS, || {
-        black_box(archive::pack(11, 10, 0, black_box(&path), black_box(&path), &mut destination));
-    });
-    println!("| a checksum over the 517 bytes of the longest record, byte by byte | {loop_over:.0} ns | 1 |");
-    println!("| read it | {read:.0} ns | {:.2} |", read / loop_over);
-    println!("| pack it | {pack:.0} ns | {:.2} |", pack / loop_over);
+    let works = vec![
+        Work::new("a checksum over the 517 bytes of the longest record, byte by byte", move || {
+            black_box(checksum(black_box(&summed)));
+        }),
+        Work::new("read it", move || {
+            black_box(archive::read(black_box(&record)));
+        }),
+        Work::new("pack it", move || {
+            black_box(archive::pack(
+                11,
+                10,
+                0,
+                black_box(&path),
+                black_box(&path),
+                &mut destination,
+            ));
+        }),
+    ];
+    Group { name: "records", rounds: 25, runs: 2_000, works }
 }
