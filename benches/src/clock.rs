@@ -2,16 +2,20 @@
 
 use std::time::Instant;
 
-/// Something to measure: its name, what one run of it does, and how many things one run does.
+/// What one run of something does.
+pub type Run = Box<dyn FnMut()>;
+
+/// Something to measure: its name, how many things one run does, and what makes it ready, which is done before the first run alone.
 pub struct Work {
     pub name: String,
     pub things: u32,
-    run: Box<dyn FnMut()>,
+    make: Option<Box<dyn FnOnce() -> Run>>,
+    run: Option<Run>,
 }
 
 impl Work {
-    pub fn new(name: impl Into<String>, run: impl FnMut() + 'static) -> Work {
-        Work { name: name.into(), things: 1, run: Box::new(run) }
+    pub fn new(name: impl Into<String>, make: impl FnOnce() -> Run + 'static) -> Work {
+        Work { name: name.into(), things: 1, make: Some(Box::new(make)), run: None }
     }
 
     /// The same, where one run does so many things and the time of one is asked.
@@ -20,14 +24,20 @@ impl Work {
     }
 
     pub fn repeat(&mut self, times: u32) {
-        for _ in 0..times {
-            (self.run)();
+        if let Some(make) = self.make.take() {
+            self.run = Some(make());
+        }
+        if let Some(run) = &mut self.run {
+            for _ in 0..times {
+                run();
+            }
         }
     }
 
     /// Nanoseconds that one thing takes: the best of so many rounds of so many runs each.
     pub fn nanoseconds(&mut self, rounds: u32, runs: u32) -> f64 {
         let mut best = f64::MAX;
+        self.repeat(1);
         for _ in 0..rounds {
             let began = Instant::now();
             self.repeat(runs);

@@ -44,9 +44,16 @@ fn full(calls: usize) -> PathBuf {
 fn program(name: &str, program: &str, words: &'static [&'static str], trace: &Path) -> Work {
     let (program, trace) = (top().join(program), trace.to_path_buf());
     Work::new(name, move || {
-        let input = File::open(&trace).expect("the trace");
-        let status = Command::new(&program).args(words).stdin(input).stdout(Stdio::null()).status();
-        assert!(status.is_ok_and(|status| status.success()), "{} does not run", program.display());
+        Box::new(move || {
+            let input = File::open(&trace).expect("the trace");
+            let status =
+                Command::new(&program).args(words).stdin(input).stdout(Stdio::null()).status();
+            assert!(
+                status.is_ok_and(|status| status.success()),
+                "{} does not run",
+                program.display()
+            );
+        })
     })
 }
 

@@ -20,25 +20,31 @@ fn checksum(bytes: &[u8]) -> u64 {
 }
 
 pub fn group() -> Group {
-    let (path, record) = longest();
-    let summed = record.clone();
-    let mut destination = vec![0; 517];
     let works = vec![
-        Work::new("a checksum over the 517 bytes of the longest record, byte by byte", move || {
-            black_box(checksum(black_box(&summed)));
+        Work::new("a checksum over the 517 bytes of the longest record, byte by byte", || {
+            let (_, record) = longest();
+            Box::new(move || {
+                black_box(checksum(black_box(&record)));
+            })
         }),
-        Work::new("read it", move || {
-            black_box(archive::read(black_box(&record)));
+        Work::new("read it", || {
+            let (_, record) = longest();
+            Box::new(move || {
+                black_box(archive::read(black_box(&record)));
+            })
         }),
-        Work::new("pack it", move || {
-            black_box(archive::pack(
-                11,
-                10,
-                0,
-                black_box(&path),
-                black_box(&path),
-                &mut destination,
-            ));
+        Work::new("pack it", || {
+            let (path, mut destination) = longest();
+            Box::new(move || {
+                black_box(archive::pack(
+                    11,
+                    10,
+                    0,
+                    black_box(&path),
+                    black_box(&path),
+                    &mut destination,
+                ));
+            })
         }),
     ];
     Group { name: "records", rounds: 25, runs: 2_000, works }

@@ -12,59 +12,72 @@ const RUN: usize = 1_000;
 
 /// One pass over the words that sums them in 64 bits, so that no sum runs over.
 fn pass() -> Work {
-    let words = filled::filled(1).words;
-    Work::new("one pass that sums the 8,512 words", move || {
-        black_box(black_box(&words).iter().map(|word| u64::from(*word)).sum::<u64>());
+    Work::new("one pass that sums the 8,512 words", || {
+        let words = filled::filled(1).words;
+        Box::new(move || {
+            black_box(black_box(&words).iter().map(|word| u64::from(*word)).sum::<u64>());
+        })
     })
 }
 
-fn sound(name: &str, filled: Filled) -> Work {
-    Work::new(format!("sound, {name}"), move || {
-        black_box(archive::sound(black_box(&filled.words)));
+fn sound(name: &str, make: impl FnOnce() -> Filled + 'static) -> Work {
+    Work::new(format!("sound, {name}"), || {
+        let words = make().words;
+        Box::new(move || {
+            black_box(archive::sound(black_box(&words)));
+        })
     })
 }
 
-fn serve(name: &str, filled: Filled) -> Work {
-    let Filled { mut words, check, .. } = filled;
-    Work::new(format!("serve a check, {name}"), move || {
-        black_box(archive::serve(black_box(&mut words), black_box(&check)));
+fn serve(name: &str, make: impl FnOnce() -> Filled + 'static) -> Work {
+    Work::new(format!("serve a check, {name}"), || {
+        let Filled { mut words, check, .. } = make();
+        Box::new(move || {
+            black_box(archive::serve(black_box(&mut words), black_box(&check)));
+        })
     })
 }
 
-fn serve_run(name: &str, filled: Filled) -> Work {
-    let Filled { mut words, check, .. } = filled;
-    let records = check.repeat(RUN);
-    let mut answers = vec![0; RUN];
-    let work = Work::new(format!("serve_run, each of {RUN} checks, {name}"), move || {
-        black_box(archive::serve_run(black_box(&mut words), black_box(&records), &mut answers));
+fn serve_run(name: &str, make: impl FnOnce() -> Filled + 'static) -> Work {
+    let work = Work::new(format!("serve_run, each of {RUN} checks, {name}"), || {
+        let Filled { mut words, check, .. } = make();
+        let records = check.repeat(RUN);
+        let mut answers = vec![0; RUN];
+        Box::new(move || {
+            black_box(archive::serve_run(black_box(&mut words), black_box(&records), &mut answers));
+        })
     });
     work.each_of(RUN as u32)
 }
 
-fn walk(name: &str, words: Vec<u32>, path: Vec<u8>) -> Work {
-    let mut goal = [0; archive::GOAL_NUMBERS];
+/// A walk over the tables of the longest one: of its own path, or of `/`.
+fn walk(name: &str, is_long: bool) -> Work {
     Work::new(format!("sound, then walk {name}"), move || {
-        black_box(archive::walk(black_box(&words), black_box(&path), true, &mut goal));
+        let (tables, long) = filled::long_walk();
+        let path = if is_long { long } else { b"/".to_vec() };
+        let mut goal = [0; archive::GOAL_NUMBERS];
+        Box::new(move || {
+            black_box(archive::walk(black_box(&tables.words), black_box(&path), true, &mut goal));
+        })
     })
 }
 
 pub fn group() -> Group {
-    let (long, path) = filled::long_walk();
     let works = vec![
         pass(),
-        sound("fresh", filled::fresh()),
-        sound("half full", filled::filled(2)),
-        sound("full", filled::filled(1)),
-        sound("full, 120 nodes links with targets of 60 bytes", filled::full_of_links()),
-        sound("full, all names in one chain, and all holds", filled::one_chain()),
-        serve("fresh but for one process", filled::nearly_fresh()),
-        serve("half full", filled::filled(2)),
-        serve("full", filled::filled(1)),
-        serve_run("fresh but for one process", filled::nearly_fresh()),
-        serve_run("half full", filled::filled(2)),
-        serve_run("full", filled::filled(1)),
-        walk("`/`, the longest walk's tables", long.words.clone(), b"/".to_vec()),
-        walk("127 names and 8 links of 32 names each, the same tables", long.words, path),
+        sound("fresh", filled::fresh),
+        sound("half full", || filled::filled(2)),
+        sound("full", || filled::filled(1)),
+        sound("full, 120 nodes links with targets of 60 bytes", filled::full_of_links),
+        sound("full, all names in one chain, and all holds", filled::one_chain),
+        serve("fresh but for one process", filled::nearly_fresh),
+        serve("half full", || filled::filled(2)),
+        serve("full", || filled::filled(1)),
+        serve_run("fresh but for one process", filled::nearly_fresh),
+        serve_run("half full", || filled::filled(2)),
+        serve_run("full", || filled::filled(1)),
+        walk("`/`, the longest walk's tables", false),
+        walk("127 names and 8 links of 32 names each, the same tables", true),
     ];
     Group { name: "tables", rounds: 25, runs: 200, works }
 }
