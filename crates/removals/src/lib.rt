@@ -6,6 +6,7 @@ ghost use Rattle.accepted.specs.Ready.{call-in, Ready, Walks};
 use accepted::walk_part;
 use goals::Stop;
 use model::Answer;
+use model::NOT_LISTED;
 use processes::is_unlisted;
 use records::Fields;
 use removing::rmdir::rmdir_at;
@@ -22,7 +23,7 @@ pub fn unlink(
     ensures { λ r. ⌜ Meets (now (words .entry)) (unlink (unpack (now (words .entry))) (call-in (now (bytes .entry)) fields)) r (now (words .exit)) ⌝ }
 {
     if is_unlisted(words, fields.process) {
-        return Answer::Refused(4);
+        return Answer::Refused(NOT_LISTED);
     }
     let path = fields.path1;
     let walk = walk_part(words, heads, next, bytes, path, false);
@@ -44,7 +45,7 @@ pub fn rmdir(
     ensures { λ r. ⌜ Meets (now (words .entry)) (rmdir (unpack (now (words .entry))) (call-in (now (bytes .entry)) fields)) r (now (words .exit)) ⌝ }
 {
     if is_unlisted(words, fields.process) {
-        return Answer::Refused(4);
+        return Answer::Refused(NOT_LISTED);
     }
     let path = fields.path1;
     let walk = walk_part(words, heads, next, bytes, path, false);

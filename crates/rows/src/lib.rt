@@ -23,6 +23,30 @@ pub const NODE_WIDTH: usize = 17;
 
 pub const HOLD_WIDTH: usize = 6;
 
+// How many rows each table has.
+pub const ENTRY_ROWS: usize = 512;
+
+pub const NODE_ROWS: usize = 256;
+
+pub const HOLD_ROWS: usize = 256;
+
+pub const PROCESS_ROWS: usize = 64;
+
+// The kinds of a node, 0 for a free row.
+pub const FILE: u8 = 1;
+
+pub const DIRECTORY: u8 = 2;
+
+pub const LINK: u8 = 3;
+
+// The node of `/`.
+pub const ROOT: u16 = 1;
+
+// The roles of a hold, 0 for a free row.
+pub const END: u8 = 1;
+
+pub const ELEMENT: u8 = 2;
+
 // A name block: its four words.
 pub struct Block {
     pub first: u32,

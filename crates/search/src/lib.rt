@@ -12,7 +12,9 @@ ghost use Rattle.rows.specs.Blocks.{Named, place-of};
 ghost use Rattle.rows.specs.Rows.{hold-of};
 ghost use Rattle.rows.specs.Stands.{Stands, entry-row, hold-row};
 use rows::Block;
+use rows::ENTRY_ROWS;
 use rows::HoldRow;
+use rows::PROCESS_ROWS;
 use rows::entry_directory;
 use rows::entry_name;
 use rows::hold_directory;
@@ -32,7 +34,7 @@ fn find_process(words: &[u32], process: u16) -> usize
     ensures { λ r. ⌜ r ≡ first (is-process process) 0 (unpack (now (words .entry)) .processes) ⌝ }
 {
     let mut i = 0;
-    while i < 64 {
+    while i < PROCESS_ROWS {
         if process_number(words, i) == process {
             return i;
         }
@@ -45,7 +47,7 @@ pub fn is_listed(words: &[u32], process: u16) -> bool
     requires { ⌜ Stands (now words) ⌝ }
     ensures { λ r. ⌜ r ≡ listed (unpack (now (words .entry)) .processes) process ⌝ }
 {
-    find_process(words, process) < 64
+    find_process(words, process) < PROCESS_ROWS
 }
 
 // The user of a process, 0 where it is not listed.
@@ -54,7 +56,7 @@ pub fn user_of_process(words: &[u32], process: u16) -> u16
     ensures { λ r. ⌜ r ≡ user-of (unpack (now (words .entry)) .processes) process ⌝ }
 {
     let row = find_process(words, process);
-    if row >= 64 {
+    if row >= PROCESS_ROWS {
         return 0;
     }
     process_user(words, row)
@@ -78,7 +80,7 @@ pub fn has_any_entry(words: &[u32], directory: u16) -> bool
     ensures { λ r. ⌜ r ≡ has-entries (unpack (now (words .entry)) .entries) directory ⌝ }
 {
     let mut i = 0;
-    while i < 512 {
+    while i < ENTRY_ROWS {
         if entry_directory(words, i) == directory {
             return true;
         }
@@ -153,7 +155,7 @@ pub fn free_entry_row(words: &[u32]) -> usize
     ensures { λ r. ⌜ r ≡ first free-entry 0 (unpack (now (words .entry)) .entries) ⌝ }
 {
     let mut i = 0;
-    while i < 512 {
+    while i < ENTRY_ROWS {
         if entry_directory(words, i) == 0 {
             return i;
         }
@@ -195,7 +197,7 @@ pub fn free_process_row(words: &[u32]) -> usize
     ensures { λ r. ⌜ r ≡ first free-process 0 (unpack (now (words .entry)) .processes) ⌝ }
 {
     let mut i = 0;
-    while i < 64 {
+    while i < PROCESS_ROWS {
         if process_number(words, i) == 0 {
             return i;
         }
