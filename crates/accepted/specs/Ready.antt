@@ -8,8 +8,7 @@ use lib.ListN.{length}
 use Rattle.model.specs.Paths.{valid-path}
 use Rattle.model.specs.Sound.{sound}
 use Rattle.model.specs.Records.{Call, path, row-of}
-use Rattle.laws.proofs.Each.{Each}
-use Rattle.laws.proofs.Pieces.{Byte}
+use Rattle.laws.specs.Each.{Each, Byte}
 use Rattle.records.specs.declared.Part.{Part}
 use Rattle.records.specs.declared.Fields.{Fields}
 use Rattle.records.specs.declared.Reading.{Reading}

@@ -11,7 +11,8 @@ use Rattle.model.specs.Lists.{first, put, clear}
 use Rattle.model.specs.Tables.{Place, Entry, Tables, no-entry, free-entry, at}
 use Rattle.model.specs.Words.{unpack}
 use Rattle.model.specs.Calls.{add-entry, drop-entry}
-use Rattle.laws.proofs.Clears.{clear-at, clears, leaves, clear-step}
+use Rattle.laws.specs.Clears.{clear-at}
+use Rattle.laws.proofs.Clears.{clears, leaves, clear-step}
 use Rattle.laws.proofs.Loops.{clear-from, clear-start, clear-done, put-first}
 use Rattle.rows.specs.declared.EntryRow.{EntryRow}
 use Rattle.rows.specs.Rows.{entry-of, Good-entry}

@@ -4,7 +4,7 @@ ghost use Rattle.model.specs.Lists.{put, clear};
 ghost use Rattle.model.specs.Tables.{no-entry, free-entry, at};
 ghost use Rattle.model.specs.Calls.{add-entry, drop-entry};
 ghost use Rattle.model.specs.Words.{unpack};
-ghost use Rattle.laws.proofs.Clears.{clear-at};
+ghost use Rattle.laws.specs.Clears.{clear-at};
 ghost use Rattle.rows.specs.Stands.{Stands, Becomes, with-entries};
 ghost use Rattle.goals.specs.Goals.{goal-of, place-at, Place-named, Walk-named};
 ghost use Rattle.plans.specs.Plans.{Place-used, Walk-used};

@@ -6,7 +6,7 @@ use lib.ListN.{length, take, replicate}
 use Rattle.model.specs.Refusals.{Outcome, refused, granted}
 use Rattle.model.specs.Tables as model-tables
 use Rattle.model.specs.Walk.{Goal}
-use Rattle.laws.proofs.Each.{Each}
+use Rattle.laws.specs.Each.{Each}
 use Rattle.rows.specs.Blocks.{Named, block-of, place-of}
 use Rattle.goals.specs.declared.Place.{Place}
 use Rattle.goals.specs.declared.Stop.{Stop}

@@ -8,7 +8,8 @@ use lib.ListN.{set}
 use Rattle.model.specs.Tables.{Tables, Hold, Process, no-hold}
 use Rattle.model.specs.Words.{unpack}
 use Rattle.model.specs.Holds.{drop-holds}
-use Rattle.laws.proofs.Clears.{clear-at, clears, leaves, clear-step}
+use Rattle.laws.specs.Clears.{clear-at}
+use Rattle.laws.proofs.Clears.{clears, leaves, clear-step}
 use Rattle.laws.proofs.Loops.{clear-from, clear-start, clear-done}
 use Rattle.rows.specs.Stands.{Stands, Becomes, with-holds, hold-row}
 use Rattle.rows.proofs.Parts.{holds-full}

@@ -7,7 +7,7 @@ ghost use Rattle.model.specs.Tables.{no-hold};
 ghost use Rattle.model.specs.Sound.{is-end};
 ghost use Rattle.model.specs.Holds.{root, on, inside, of-process, end-held, entry-held, inside-held, drop-holds, preempted, overruled};
 ghost use Rattle.model.specs.Words.{unpack};
-ghost use Rattle.laws.proofs.Clears.{clear-at};
+ghost use Rattle.laws.specs.Clears.{clear-at};
 ghost use Rattle.rows.specs.Stands.{Stands, Becomes, with-holds, hold-row};
 ghost use Rattle.goals.specs.Goals.{goal-of, Walk-named};
 ghost use Rattle.holds.specs.Scopes.{covers, Scope-named, Scoped, of-another, in-the-way};

@@ -23,7 +23,8 @@ use Rattle.invariants.proofs.Words.{Fits, packed-sound, unpack-pack}
 use Rattle.invariants.proofs.Order.{Proper}
 use Rattle.invariants.proofs.Steps.{step-keeps, fresh-in-order}
 use Rattle.invariants.proofs.Accounting.{used-entries, is-creation, is-removal, Accounts, step-accounts}
-use Rattle.invariants.proofs.Served.{Serves, refuses, grants, serves, accepts, granted-accepts, words-in-order, accepted-proper, granted-in-order, granted-sound, sound-not-unsound}
+use Rattle.invariants.specs.Accepts.{accepts}
+use Rattle.invariants.proofs.Served.{Serves, refuses, grants, serves, granted-accepts, words-in-order, accepted-proper, granted-in-order, granted-sound, sound-not-unsound}
 
 -- ROWS
 

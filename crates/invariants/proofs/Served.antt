@@ -1,7 +1,7 @@
 -- One record served over lent words: what a granted one has passed, that the words stay sound, and that sound words are not refused as
 -- unsound. Assumes nothing.
 use mathlib.Core.Path.{_≡_, refl, ap}
-use mathlib.Core.Bool.{Bool, true, false}
+use mathlib.Core.Bool.{true, false}
 use mathlib.Core.List.{List}
 use Prim.Native.Nat.{ℕ}
 use native.Mathlib.Omega.{arith}
@@ -13,12 +13,12 @@ use Rattle.model.specs.Records.{Call, fields-broken, paths-broken, well-formed,
 use Rattle.model.specs.Walk.{Goal}
 use Rattle.model.specs.Calls.{Change, step}
 use Rattle.model.specs.Serve.{Served, judged-with, judged, served, serve}
-use Rattle.model.specs.declared.Answer.{Answer}
-use Rattle.model.specs.declared.Answer.the-variants.{Held, Seen, Done, Refused}
+use Rattle.model.specs.declared.Answer.the-variants.{Refused}
 use Rattle.laws.proofs.Bools.{not-false}
 use Rattle.laws.proofs.Each.{Each}
 use Rattle.laws.proofs.Grants.{same-grant, passed, both-granted}
 use Rattle.laws.proofs.Pieces.{Byte}
+use Rattle.invariants.specs.Accepts.{accepts}
 use Rattle.invariants.proofs.Cases.{Saw, seen, held, Step, by-enter, by-fork, by-exec, by-exit, by-check, by-look, by-use, by-create, by-mkdir, by-symlink, by-link, by-unlink, by-rmdir, step-cases}
 use Rattle.invariants.proofs.Accepted.{read-fits, read-path1-bytes, read-path2-bytes}
 use Rattle.invariants.proofs.Soundness.{sound-facts, facts-sound}
@@ -84,13 +84,6 @@ serves w s = go (judged w s) refl
     go (granted c) e =
         let is : serve w s ≡ served w (taken s) (granted c) = ap (served w (taken s)) e in
         grants c (accepted w s c e) (ap (λ (x : Served). x .answer) is) (ap (λ (x : Served). x .words) is)
-
--- the answer of an accepted call
-unfoldable pub accepts : Answer → Bool
-accepts (Held n) = true
-accepts (Seen n) = true
-accepts (Done n) = true
-accepts (Refused n) = false
 
 step-accepts : (t : Tables) (r : Call) (c : Change) → Step t r c → accepts (c .answer) ≡ true
 unfolding accepts

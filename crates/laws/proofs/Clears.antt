@@ -5,22 +5,20 @@ use mathlib.Core.List.{List, [], _∷_}
 use Prim.Native.Nat.{ℕ, _+_, _<_}
 use lib.ListN.{length, getD, set}
 use Rattle.model.specs.Lists.{clear}
+use Rattle.laws.specs.Clears.{clear-at}
 use Rattle.laws.proofs.Loops.{clear-from, clear-here, clear-onward}
 
 module _ {A : Type 0} (f : A → Bool) (blank : A) where
-  unfoldable pub clear-at : ℕ → List A → List A
-  clear-at i xs = elim (f (getD xs i blank)) [ true ↦ set xs i blank | false ↦ xs ]
-
-  pub clears : (i : ℕ) (xs : List A) {b : Bool} → b ≡ f (getD xs i blank) → b ≡ true → set xs i blank ≡ clear-at i xs
+  pub clears : (i : ℕ) (xs : List A) {b : Bool} → b ≡ f (getD xs i blank) → b ≡ true → set xs i blank ≡ clear-at f blank i xs
   unfolding clear-at
   clears i xs {b} e t = let k : f (getD xs i blank) ≡ true = cc in simp (k, clear-at)
 
-  pub leaves : (i : ℕ) (xs : List A) {b : Bool} → b ≡ f (getD xs i blank) → b ≡ false → xs ≡ clear-at i xs
+  pub leaves : (i : ℕ) (xs : List A) {b : Bool} → b ≡ f (getD xs i blank) → b ≡ false → xs ≡ clear-at f blank i xs
   unfolding clear-at
   leaves i xs {b} e t = let k : f (getD xs i blank) ≡ false = cc in simp (k, clear-at)
 
   -- one row more
-  pub clear-step : (i : ℕ) (xs : List A) → i < length xs → clear-from f blank (i + 1) (clear-at i xs) ≡ clear-from f blank i xs
+  pub clear-step : (i : ℕ) (xs : List A) → i < length xs → clear-from f blank (i + 1) (clear-at f blank i xs) ≡ clear-from f blank i xs
   unfolding clear-at
   clear-step i xs h = go (f (getD xs i blank)) refl
     where

@@ -6,12 +6,9 @@ use Prim.Native.Nat.{ℕ, zero, suc, _<_}
 use native.Mathlib.Omega.{arith}
 use lib.ListN.{length, getD, take, drop, replicate, set}
 use Rattle.model.specs.Lists.{all, keep, find, put, put-all, clear}
+pub use Rattle.laws.specs.Each.{Each, none, one}
 use Rattle.laws.proofs.Bools.{and-left, and-right, both}
 use Rattle.laws.proofs.Choices.{chosen}
-
-pub data Each {A : Type 0} (P : A → Type 0) : List A → Type 0 where
-  none : Each P []
-  one : {x : A} {xs : List A} → P x → Each P xs → Each P (x ∷ xs)
 
 module _ {A : Type 0} {P : A → Type 0} where
   pub each-head : {x : A} {xs : List A} → Each P (x ∷ xs) → P x

@@ -12,6 +12,7 @@ use lib.ListN.{length, take, drop, set, drop-of-length-le, replicate, length-app
 use lib.Seq.{sets, sets-eq, take-at, drop-at, take-append-seam, take-take}
 use Rattle.model.specs.Lists.{same, pieces, joined, filled}
 use Rattle.model.specs.Words.{bits, words, bytes}
+pub use Rattle.laws.specs.Each.{Byte}
 use Rattle.laws.proofs.Each.{Each, none, one, each-append, each-take, each-replicate}
 
 -- THE SAME LIST
@@ -70,9 +71,6 @@ unfolding bits
 bits-join n j k w = sym (mod-pow-add (w / 2 ^ n) j k ∙ ap (λ x. x % 2 ^ j * 2 ^ k + w / 2 ^ n % 2 ^ k) (shr-shr w n k))
 
 -- WORDS AND BYTES
-
-abbrev pub Byte : ℕ → Type 0
-Byte b = b < 256
 
 abbrev pub Word : ℕ → Type 0
 Word w = w < 2 ^ 32

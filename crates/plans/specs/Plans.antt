@@ -7,7 +7,7 @@ use lib.ListN.{length, getD, take}
 use Rattle.model.specs.Lists.{put}
 use Rattle.model.specs.Tables.{Hold, element-role, no-hold, free-hold}
 use Rattle.model.specs.Holds.{of-process, hold-by, wanted, lacking, copy-for}
-use Rattle.laws.proofs.Each.{Each}
+use Rattle.laws.specs.Each.{Each}
 use Rattle.rows.specs.declared.HoldRow.{HoldRow}
 use Rattle.rows.specs.Blocks.{Named}
 use Rattle.rows.specs.Rows.{hold-of, Good-hold}

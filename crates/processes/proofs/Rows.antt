@@ -11,7 +11,8 @@ use Rattle.model.specs.Lists.{first}
 use Rattle.model.specs.Tables.{Tables, no-process, free-process, is-process}
 use Rattle.model.specs.Words.{unpack}
 use Rattle.model.specs.Calls.{no-free-process, add-process, drop-process}
-use Rattle.laws.proofs.Clears.{clear-at, clears, leaves, clear-step}
+use Rattle.laws.specs.Clears.{clear-at}
+use Rattle.laws.proofs.Clears.{clears, leaves, clear-step}
 use Rattle.laws.proofs.Loops.{clear-from, clear-start, clear-done, put-first, none-free}
 use Rattle.rows.specs.Stands.{Stands, Becomes, with-processes, process-row}
 use Rattle.rows.proofs.Parts.{processes-full}

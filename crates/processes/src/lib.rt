@@ -4,7 +4,7 @@ ghost use Prim.Native.Nat.{_≤_, _<_};
 ghost use Rattle.model.specs.Tables.{no-process, is-process};
 ghost use Rattle.model.specs.Calls.{unlisted, no-free-process, add-process, drop-process};
 ghost use Rattle.model.specs.Words.{unpack};
-ghost use Rattle.laws.proofs.Clears.{clear-at};
+ghost use Rattle.laws.specs.Clears.{clear-at};
 ghost use Rattle.rows.specs.Stands.{Stands, Becomes, with-processes};
 use edits::clear_process;
 use edits::set_process;

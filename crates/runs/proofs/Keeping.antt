@@ -19,7 +19,8 @@ use Rattle.laws.proofs.Bools.{clash}
 use Rattle.laws.proofs.Choices.{chosen}
 use Rattle.invariants.proofs.Cases.{Gives, Saw, seen, held, Step, by-enter, by-fork, by-exec, by-exit, by-check, by-look, by-use, by-create, by-mkdir, by-symlink, by-link, by-unlink, by-rmdir, step-cases}
 use Rattle.invariants.proofs.Kept.{sound-kept}
-use Rattle.invariants.proofs.Served.{accepts, accepted, granted-accepts, granted-in-order, words-in-order}
+use Rattle.invariants.specs.Accepts.{accepts}
+use Rattle.invariants.proofs.Served.{accepted, granted-accepts, granted-in-order, words-in-order}
 use Rattle.invariants.proofs.Words.{unpack-pack}
 use Rattle.rows.specs.Stands.{Stands}
 use Rattle.rows.specs.Blocks.{block-of}

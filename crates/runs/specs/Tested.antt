@@ -6,7 +6,7 @@ use Prim.Native.Nat.{ℕ}
 use lib.Dec.{ltb}
 use Rattle.model.specs.Sound.{sound}
 use Rattle.model.specs.declared.Answer.{Answer}
-use Rattle.invariants.proofs.Served.{accepts}
+use Rattle.invariants.specs.Accepts.{accepts}
 use Rattle.index.specs.Indexed.{Indexed}
 
 pub record Tested (w heads next : List ℕ) (is-sound : Bool) : Type 0 where

@@ -7,7 +7,7 @@ use lib.Dec.{ltb}
 use Rattle.model.specs.declared.Answer.{Answer}
 use Rattle.laws.proofs.Bools.{clash}
 use Rattle.laws.proofs.Choices.{chosen}
-use Rattle.invariants.proofs.Served.{accepts}
+use Rattle.invariants.specs.Accepts.{accepts}
 use Rattle.runs.specs.Tested.{leaves-entries}
 use borrow.Author.Needs.{needs}
 use Rattle.runs.proofs.leaves_entries.Statement.{statement}
