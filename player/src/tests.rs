@@ -80,7 +80,7 @@ fn fits(answer: Answer, told: &str) -> bool {
 /// The reason that is told of an answer.
 fn reason(before: &Tables<'_>, after: &Tables<'_>, record: &[u8], answer: Answer) -> String {
     match (Call::read(record), answer.granted()) {
-        (Ok((call, _)), Ok(_)) => granted::outcome(before, after, &call, answer.word() == "seen"),
+        (Ok((call, _)), Ok(granted)) => granted::outcome(before, after, &call, granted),
         (Ok((call, _)), Err(refusal)) => refused::reason(before, &call, refusal),
         (Err(_), Err(refusal)) => refused::reason_of_bytes(record, refusal),
         (Err(_), Ok(_)) => panic!("a granted call that cannot be read"),
