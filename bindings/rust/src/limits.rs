@@ -13,7 +13,7 @@ pub const MOST_LINKS: usize = 8;
 pub const HEAD: usize = 7;
 /// The bytes of the longest record.
 pub const LONGEST_RECORD: usize = HEAD + 2 * LONGEST_PATH;
-/// The bytes of stack with which every function of the archive gets along, and to spare. The
-/// deepest walk takes most of it (docs/BENCHMARKS.md has the figure); a thread that Rust starts has
-/// twice as much where nothing else is asked.
+/// The bytes of stack that are enough for every function of the archive. The deepest walk takes
+/// 661 KiB of them (docs/BENCHMARKS.md); a thread that Rust starts has twice as many where nothing
+/// else is asked.
 pub const STACK: usize = 1 << 20;

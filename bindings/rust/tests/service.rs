@@ -129,12 +129,15 @@ fn a_run_over_unsound_tables_refuses_each_record() {
 
 #[test]
 fn a_walk_tells_its_end_and_its_elements() {
-    let mut service = after(&OPENING);
-    answer(&mut service, "20 create /in/fox").expect("made");
-    answer(&mut service, "20 symlink /way in/next").expect("made");
-    answer(&mut service, "20 symlink /in/next fox").expect("made");
-    answer(&mut service, "20 symlink /loop loop").expect("made");
-    answer(&mut service, "20 symlink /top /").expect("made");
+    let service = after(&[
+        "10 enter 0",
+        "10 mkdir /in",
+        "10 create /in/fox",
+        "10 symlink /way in/next",
+        "10 symlink /in/next fox",
+        "10 symlink /loop loop",
+        "10 symlink /top /",
+    ]);
     let place = |directory, name: &[u8]| Place { directory, name: name.to_vec() };
     let elements = vec![place(1, b"way"), place(2, b"next")];
     let found = Goal { node: 3, end: Some(place(2, b"fox")), elements };
