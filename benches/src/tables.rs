@@ -83,7 +83,7 @@ pub fn group() -> Group {
         serve_run("full", || filled::filled(1)),
         walk("`/`, the longest walk's tables", || (filled::long_walk().0, b"/".to_vec())),
         walk("127 names and 8 links of 32 names each, the same tables", filled::long_walk),
-        walk("127 names, 8 links of 32 names each, each the last name before", filled::nested_walk),
+        walk("127 names and 8 links of 32 names each, one within the other", filled::nested_walk),
     ];
     Group { name: "tables", rounds: 25, runs: 200, works }
 }
