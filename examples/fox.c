@@ -22,7 +22,8 @@ static void call(enum tickbutton_call number, uint16_t process, uint16_t argumen
 }
 
 int main(void) {
-    tickbutton_fresh(words, TICKBUTTON_WORDS);
+    if (tickbutton_word(tickbutton_fresh(words, TICKBUTTON_WORDS)) != TICKBUTTON_DONE)
+        return 1;
     call(TICKBUTTON_ENTER, 20, 500, "");
     call(TICKBUTTON_ENTER, 30, 600, "");
     call(TICKBUTTON_CHECK, 20, 0, "/fox");

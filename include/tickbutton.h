@@ -7,7 +7,10 @@
  *
  * A slice is a pointer and a count of its elements. A pointer must not be NULL, even where the count is 0, and what is written must not
  * overlap with what is read. Nothing else is required: any numbers and any bytes are answered. No function keeps a pointer, allocates, or
- * has a state of its own, so that different tables may be served by different threads at once. */
+ * has a state of its own, so that different tables may be served by different threads at once; one set of tables is for one thread at a time.
+ *
+ * The walk of a path takes stack for each of its names and of the names that its links lead through, 661 KiB for the deepest: a thread that
+ * calls needs TICKBUTTON_STACK bytes. Threads of glibc have more where nothing else is asked; those of some other libraries have less. */
 #ifndef TICKBUTTON_H
 #define TICKBUTTON_H
 
@@ -19,8 +22,19 @@
 extern "C" {
 #endif
 
-/* The words of the tables, the fields that reading gives, the numbers of a walk's goal, and the bytes of the longest record. */
-enum { TICKBUTTON_WORDS = 8512, TICKBUTTON_FIELDS = 6, TICKBUTTON_GOAL = 46, TICKBUTTON_LONGEST_RECORD = 517 };
+/* ---- Sizes. ---- */
+
+enum {
+    TICKBUTTON_WORDS = 8512,         /* the words of the tables */
+    TICKBUTTON_FIELDS = 6,           /* the fields that reading a record gives */
+    TICKBUTTON_GOAL = 46,            /* the numbers of a walk's goal */
+    TICKBUTTON_LONGEST_NAME = 14,    /* bytes */
+    TICKBUTTON_LONGEST_TARGET = 64,  /* bytes of where a link leads */
+    TICKBUTTON_LONGEST_PATH = 255,   /* bytes */
+    TICKBUTTON_LONGEST_RECORD = 517, /* bytes: 7, and two paths */
+    TICKBUTTON_MOST_LINKS = 8,       /* links that one walk follows */
+    TICKBUTTON_STACK = 1048576       /* bytes of stack, enough for every function (docs/BENCHMARKS.md) */
+};
 
 /* ---- The functions. Each but `tickbutton_serve_run` gives an answer as one number, to be taken apart below. ---- */
 
@@ -29,12 +43,12 @@ enum { TICKBUTTON_WORDS = 8512, TICKBUTTON_FIELDS = 6, TICKBUTTON_GOAL = 46, TIC
 uint64_t tickbutton_fresh(uint32_t *words, size_t count);
 
 /* Serves the record at the front of the bytes over the words: held, seen or done with a number, or refused, and the bytes taken. A refusal
- * changes no word. */
+ * changes no word. No byte is taken of a record that is cut off (refused 17), so that a loop over a stream must stop there, or wait for the rest. */
 uint64_t tickbutton_serve(uint32_t *words, size_t count, const uint8_t *record, size_t length);
 
 /* Serves record after record, as long as a whole one is left and a slot for its answer, and gives how many were served; `taken` becomes how many
  * bytes they are. Each slot in front gets its record's answer, with no bytes taken told in it; the slots behind stay. The tables are tested
- * once, not before each record. */
+ * once, not before each record; where they are not sound, the slot of every whole record gets refused 1, and the run does not end early. */
 uint64_t tickbutton_serve_run(uint32_t *words, size_t count, const uint8_t *records, size_t length, uint64_t *answers, size_t room,
                               uint64_t taken[1]);
 
@@ -43,7 +57,10 @@ uint64_t tickbutton_sound(const uint32_t *words, size_t count);
 
 /* Walks a path over the words, a link at its last name too where that is asked: done with the node that it leads to, 0 for an absence; refused
  * 1, 3, 7, 8 or 9. The goal is the number of elements (links followed), the end entry and up to 8 elements in the order met, each as its
- * directory and the four words of its name block, zeros behind them; no end entry (`/`) is zeros, and a refused walk's goal is all zeros. */
+ * directory and the four words of its name block, zeros behind them; no end entry (`/`) is zeros, and a refused walk's goal is all zeros.
+ *
+ * A name block is 16 bytes, the most significant byte of each word first: the length of the name, its bytes, and zeros behind them. `fox` is
+ * 0x03666F78, 0, 0, 0. */
 uint64_t tickbutton_walk(const uint32_t *words, size_t count, const uint8_t *path, size_t length, bool follow_last,
                          uint32_t goal[TICKBUTTON_GOAL]);
 
@@ -52,11 +69,12 @@ uint64_t tickbutton_walk(const uint32_t *words, size_t count, const uint8_t *pat
 uint64_t tickbutton_pack(uint32_t call, uint16_t process, uint16_t argument, const uint8_t *path1, size_t length1, const uint8_t *path2,
                          size_t length2, uint8_t *destination, size_t room);
 
-/* Reads the record at the front of the bytes: done with the call's number, or refused 17, 2 or 3, and the bytes taken. The fields are the
- * process, the argument, the start and the length of path 1, and the start and the length of path 2; all 0 where it is refused. */
+/* Reads the record at the front of the bytes: done with the call's number, or refused 17, 2 or 3, and the bytes taken, none for 17. The fields
+ * are the process, the argument, the start and the length of path 1, and the start and the length of path 2; all 0 where it is refused. */
 uint64_t tickbutton_read(const uint8_t *bytes, size_t count, uint32_t fields[TICKBUTTON_FIELDS]);
 
-/* ---- Answers: the number in the lower 32 bits, the word in the two above, the bytes taken above those. ---- */
+/* ---- Answers: the number in the lower 32 bits, the word in the two above, the bytes taken above those. In C++ the type of a word is written with
+ * its `enum`, since a function has the same name. ---- */
 
 enum tickbutton_word {
     TICKBUTTON_HELD = 0,   /* the name is held for the caller's user; the number is its node, 0 for an absence */
@@ -99,17 +117,17 @@ enum tickbutton_call {
 
 enum tickbutton_refusal {
     TICKBUTTON_UNSOUND = 1,           /* the slice has not 8,512 words, or its tables are not sound */
-    TICKBUTTON_BAD_FIELD = 2,         /* call 0 or 14 and above, process 0, child 0, a field that must be 0, zero bits set */
+    TICKBUTTON_BAD_FIELD = 2,         /* there is no such call, process or child, or what the call does not take is not 0 */
     TICKBUTTON_BAD_PATH = 3,          /* path 1 or path 2 is not valid */
     TICKBUTTON_NOT_LISTED = 4,        /* calls 2 to 13: the process is not listed */
     TICKBUTTON_ALREADY_LISTED = 5,    /* calls 1 and 2: the process or child is listed already */
     TICKBUTTON_NO_PROCESS_ROW = 6,    /* calls 1 and 2: the 64 process rows are all used */
     TICKBUTTON_NINTH_LINK = 7,        /* the path leads through a ninth link */
-    TICKBUTTON_NAME_MISSING = 8,      /* a name before the end of the path is missing */
-    TICKBUTTON_NAME_IS_FILE = 9,      /* a name before the end of the path is a file */
+    TICKBUTTON_NAME_MISSING = 8,      /* nothing is at a name that more names follow */
+    TICKBUTTON_NAME_IS_FILE = 9,      /* a file is at a name that more names follow */
     TICKBUTTON_ABSENT = 10,           /* what is to be used, removed or linked is absent */
     TICKBUTTON_PRESENT = 11,          /* what is to be made is there already, or is `/` */
-    TICKBUTTON_WRONG_KIND = 12,       /* unlink of a directory; rmdir of anything else, or of `/`; link of a directory */
+    TICKBUTTON_WRONG_KIND = 12,       /* unlink and link take no directory, and rmdir takes nothing else; nor does it take `/` */
     TICKBUTTON_NOT_EMPTY = 13,        /* rmdir of a directory with entries */
     TICKBUTTON_HELD_BY_ANOTHER = 14,  /* creation or removal where another user has a hold */
     TICKBUTTON_NO_NAME_ROW = 15,      /* the 512 entry rows or the 256 nodes are all used */

@@ -3,6 +3,8 @@
 10 mkdir /in
 10 create /file
 10 symlink /loop loop
+10 symlink /left right
+10 symlink /right left
 10 symlink /link /in
 10 exec
 20 enter 500
@@ -35,6 +37,7 @@ raw 2800a000000000
 20 fork 30
 # 7, more than 8 links. 8, a name on the way is missing. 9, a name on the way is a file.
 20 check /loop
+20 check /left
 20 check /in/deep/fox
 20 check /file/fox
 # 10, there is nothing by that name.

@@ -1,6 +1,8 @@
 //! Tables to measure on, each made by calls through the service itself.
 
-use tickbutton::{archive, Answer};
+use tickbutton::limits::{LONGEST_PATH, LONGEST_RECORD, LONGEST_TARGET, MOST_LINKS};
+use tickbutton::tables::{ENTRY_ROWS, HOLD_ROWS, NODE_ROWS, PROCESS_ROWS};
+use tickbutton::{archive, Answer, Service};
 
 /// Tables, the records that made them, and a check that finds its path held already.
 pub struct Filled {
@@ -11,7 +13,7 @@ pub struct Filled {
 
 /// A record of the call.
 pub fn packed(call: u32, process: u16, argument: u16, path1: &str, path2: &str) -> Vec<u8> {
-    let mut record = vec![0; 517];
+    let mut record = vec![0; LONGEST_RECORD];
     match archive::pack(call, process, argument, path1.as_bytes(), path2.as_bytes(), &mut record) {
         Answer::Done(length) => record.truncate(length as usize),
         other => panic!("not packed: {other:?}"),
@@ -21,9 +23,7 @@ pub fn packed(call: u32, process: u16, argument: u16, path1: &str, path2: &str) 
 
 impl Filled {
     fn fresh() -> Filled {
-        let mut words = vec![0; 8_512];
-        archive::fresh(&mut words);
-        Filled { words, records: Vec::new(), check: Vec::new() }
+        Filled { words: Service::new().into_words(), records: Vec::new(), check: Vec::new() }
     }
 
     fn call(&mut self, call: u32, process: u16, argument: u16, path1: &str, path2: &str) {
@@ -94,7 +94,7 @@ pub fn nearly_fresh() -> Filled {
 
 /// Every table full (share 1) or half full (share 2), with names of 12 and 14 bytes, no links.
 pub fn filled(share: usize) -> Filled {
-    let (nodes, entries, directories) = (256 / share, 512 / share, 16 / share);
+    let (nodes, entries, directories) = (NODE_ROWS / share, ENTRY_ROWS / share, 16 / share);
     let mut filled = Filled::fresh();
     filled.enter(1, 0);
     for directory in 0..directories {
@@ -110,7 +110,7 @@ pub fn filled(share: usize) -> Filled {
         filled.link(&path, &paths[entry % (nodes - 1 - directories)].clone());
         paths.push(path);
     }
-    filled.hold(64 / share, 256 / share, &paths);
+    filled.hold(PROCESS_ROWS / share, HOLD_ROWS / share, &paths);
     filled
 }
 
@@ -119,7 +119,7 @@ pub fn full_of_links() -> Filled {
     let mut filled = Filled::fresh();
     filled.enter(1, 0);
     let mut paths = Vec::new();
-    for node in 2..257 {
+    for node in 2..=NODE_ROWS {
         let path = format!("/entry-of-{node:05}");
         if node % 2 == 0 && paths.len() > 16 {
             filled.symlink(
@@ -131,12 +131,12 @@ pub fn full_of_links() -> Filled {
             paths.push(path);
         }
     }
-    for entry in 255..512 {
+    for entry in NODE_ROWS - 1..ENTRY_ROWS {
         let path = format!("/link-of-{entry:06}");
         filled.link(&path, &paths[entry % 100].clone());
         paths.push(path);
     }
-    filled.hold(64, 256, &paths);
+    filled.hold(PROCESS_ROWS, HOLD_ROWS, &paths);
     filled
 }
 
@@ -179,29 +179,58 @@ pub fn one_chain() -> Filled {
     let mut filled = Filled::fresh();
     filled.enter(1, 0);
     let paths: Vec<String> =
-        names_of_one_chain(512).iter().map(|name| format!("/{name}")).collect();
-    for path in &paths[..255] {
+        names_of_one_chain(ENTRY_ROWS).iter().map(|name| format!("/{name}")).collect();
+    let files = NODE_ROWS - 1;
+    for path in &paths[..files] {
         filled.create(path);
     }
-    for (place, path) in paths[255..].iter().enumerate() {
-        filled.link(path, &paths[place % 255].clone());
+    for (place, path) in paths[files..].iter().enumerate() {
+        filled.link(path, &paths[place % files].clone());
     }
-    filled.hold(2, 256, &paths);
+    filled.hold(2, HOLD_ROWS, &paths);
     filled
 }
 
-/// Tables with the longest walk, and its path: 127 names, 8 of them links of 32 names each.
+/// The most names of a path, and of a target: one byte each, and a slash before it.
+const PATH_NAMES: usize = LONGEST_PATH / 2;
+const TARGET_NAMES: usize = LONGEST_TARGET / 2;
+
+/// A path of so many names, all of them `a` but the last.
+fn path_of(names: usize, last: usize) -> String {
+    format!("{}/{last}", "/a".repeat(names - 1))
+}
+
+/// Tables with a walk of the most names, and its path: 8 of its first names are links, each of which leads through a whole target and is left behind
+/// before the next name.
 pub fn long_walk() -> (Filled, Vec<u8>) {
     let mut filled = Filled::fresh();
     filled.enter(1, 0);
-    let deep = "/a".repeat(32);
-    for depth in 1..=32 {
+    let deep = "/a".repeat(TARGET_NAMES);
+    let rest = PATH_NAMES - MOST_LINKS;
+    for depth in 1..=TARGET_NAMES {
         filled.mkdir(&"/a".repeat(depth));
     }
     filled.symlink("/l", &deep);
     filled.symlink(&format!("{deep}/l"), &deep);
-    for depth in 1..=119 {
+    for depth in 1..=rest {
         filled.mkdir(&format!("/l{}", "/a".repeat(depth)));
     }
-    (filled, format!("{}{}", "/l".repeat(8), "/a".repeat(119)).into_bytes())
+    (filled, format!("{}{}", "/l".repeat(MOST_LINKS), "/a".repeat(rest)).into_bytes())
+}
+
+/// Tables with the deepest walk, and its path: the last of its names is a link, and the last of each target's names is the next one, so that each name
+/// is looked up within the one before.
+pub fn nested_walk() -> (Filled, Vec<u8>) {
+    let mut filled = Filled::fresh();
+    filled.enter(1, 0);
+    for depth in 1..PATH_NAMES {
+        filled.mkdir(&"/a".repeat(depth));
+    }
+    let path = path_of(PATH_NAMES, 1);
+    filled.symlink(&path, &path_of(TARGET_NAMES, 2));
+    for link in 2..=MOST_LINKS {
+        filled.symlink(&path_of(TARGET_NAMES, link), &path_of(TARGET_NAMES, link + 1));
+    }
+    filled.create(&path_of(TARGET_NAMES, MOST_LINKS + 1));
+    (filled, path.into_bytes())
 }

@@ -7,19 +7,41 @@ mod listing;
 mod records;
 mod tables;
 
+use std::process::ExitCode;
+
 use clock::Group;
+
+/// How many times as long the test of soundness takes, at the least, where all names are in one chain. It takes some forty times as long.
+const LONG_CHAIN: f64 = 5.0;
 
 /// The groups whose things are functions of the archive.
 fn functions() -> Vec<Group> {
     vec![records::group(), tables::group()]
 }
 
-fn measure(mut group: Group) {
-    let mut first = None;
+/// Prints the times of a group, and gives them with their names.
+fn measure(mut group: Group) -> Vec<(String, f64)> {
+    let mut times: Vec<(String, f64)> = Vec::new();
     for work in &mut group.works {
         let time = work.nanoseconds(group.rounds, group.runs);
-        let base = *first.get_or_insert(time);
+        let base = times.first().map_or(time, |(_, first)| *first);
         println!("| {} | {time:.0} ns | {:.2} |", work.name, time / base);
+        times.push((work.name.clone(), time));
+    }
+    times
+}
+
+/// Measures everything. Whether the names that should fall into one chain did so: the numbers of the hash stand in filled.rs once more, and could part
+/// from those of crates/index.
+fn measure_all() -> bool {
+    println!("| what | time | ratio |\n|---|---|---|");
+    let groups = functions().into_iter().chain(listing::groups());
+    let times: Vec<(String, f64)> = groups.flat_map(measure).collect();
+    listing::tidy();
+    let time = |name: &str| times.iter().find(|(other, _)| other == name).map(|(_, time)| *time);
+    match (time(tables::SOUND_FULL), time(tables::SOUND_ONE_CHAIN)) {
+        (Some(full), Some(one_chain)) => one_chain > LONG_CHAIN * full,
+        _ => false,
     }
 }
 
@@ -37,20 +59,21 @@ fn count(name: &str, place: &str, times: &str) -> Option<()> {
     Some(())
 }
 
-fn main() {
+fn main() -> ExitCode {
     let words: Vec<String> = std::env::args().skip(1).collect();
     let words: Vec<&str> = words.iter().map(String::as_str).collect();
     match words.as_slice() {
+        [] if measure_all() => {}
         [] => {
-            println!("| what | time | ratio |\n|---|---|---|");
-            functions().into_iter().chain(listing::groups()).for_each(measure);
-            listing::tidy();
+            eprintln!("benches: `{}` is too quick: are the hash's numbers in benches/src/filled.rs those of crates/index?", tables::SOUND_ONE_CHAIN);
+            return ExitCode::FAILURE;
         }
         ["list"] => list(),
         ["count", name, place, times] if count(name, place, times).is_some() => {}
         _ => {
             eprintln!("usage: benches [list | count GROUP PLACE TIMES]");
-            std::process::exit(2);
+            return ExitCode::from(2);
         }
     }
+    ExitCode::SUCCESS
 }

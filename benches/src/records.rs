@@ -2,15 +2,18 @@
 
 use std::hint::black_box;
 
-use tickbutton::archive;
+use tickbutton::limits::{LONGEST_NAME, LONGEST_PATH, LONGEST_RECORD};
+use tickbutton::{archive, Answer};
 
 use crate::clock::{Group, Work};
 
-/// The link call with two paths of 255 bytes: 517 bytes in all.
+/// The longest path, of the longest names, and the link call that has it twice.
 fn longest() -> (Vec<u8>, Vec<u8>) {
-    let path = b"/abcdefghijklmn".repeat(17);
-    let mut record = vec![0; 517];
-    archive::pack(11, 10, 0, &path, &path, &mut record);
+    let name = [b"/", &b"abcdefghijklmn"[..LONGEST_NAME]].concat();
+    let path = name.repeat(LONGEST_PATH / name.len());
+    let mut record = vec![0; LONGEST_RECORD];
+    let packed = archive::pack(11, 10, 0, &path, &path, &mut record);
+    assert_eq!(packed, Answer::Done(LONGEST_RECORD as u32), "the longest record");
     (path, record)
 }
 

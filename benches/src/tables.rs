@@ -2,13 +2,17 @@
 
 use std::hint::black_box;
 
-use tickbutton::archive;
+use tickbutton::{archive, Answer};
 
 use crate::clock::{Group, Work};
 use crate::filled::{self, Filled};
 
 /// How many records one run of serve_run serves.
 const RUN: usize = 1_000;
+
+/// The names of two measurements that are compared.
+pub const SOUND_FULL: &str = "sound, full";
+pub const SOUND_ONE_CHAIN: &str = "sound, full, all names in one chain, and all holds";
 
 /// One pass over the words that sums them in 64 bits, so that no sum runs over.
 fn pass() -> Work {
@@ -21,7 +25,7 @@ fn pass() -> Work {
 }
 
 fn sound(name: &str, make: impl FnOnce() -> Filled + 'static) -> Work {
-    Work::new(format!("sound, {name}"), || {
+    Work::new(name, || {
         let words = make().words;
         Box::new(move || {
             black_box(archive::sound(black_box(&words)));
@@ -50,12 +54,13 @@ fn serve_run(name: &str, make: impl FnOnce() -> Filled + 'static) -> Work {
     work.each_of(RUN as u32)
 }
 
-/// A walk over the tables of the longest one: of its own path, or of `/`.
-fn walk(name: &str, is_long: bool) -> Work {
+/// A walk over these tables, of the path that is theirs.
+fn walk(name: &str, make: impl FnOnce() -> (Filled, Vec<u8>) + 'static) -> Work {
     Work::new(format!("sound, then walk {name}"), move || {
-        let (tables, long) = filled::long_walk();
-        let path = if is_long { long } else { b"/".to_vec() };
+        let (tables, path) = make();
         let mut goal = [0; archive::GOAL_NUMBERS];
+        let answer = archive::walk(&tables.words, &path, true, &mut goal);
+        assert!(matches!(answer, Answer::Done(1..)), "the walk leads to {answer}");
         Box::new(move || {
             black_box(archive::walk(black_box(&tables.words), black_box(&path), true, &mut goal));
         })
@@ -65,19 +70,20 @@ fn walk(name: &str, is_long: bool) -> Work {
 pub fn group() -> Group {
     let works = vec![
         pass(),
-        sound("fresh", filled::fresh),
-        sound("half full", || filled::filled(2)),
-        sound("full", || filled::filled(1)),
-        sound("full, 120 nodes links with targets of 60 bytes", filled::full_of_links),
-        sound("full, all names in one chain, and all holds", filled::one_chain),
+        sound("sound, fresh", filled::fresh),
+        sound("sound, half full", || filled::filled(2)),
+        sound(SOUND_FULL, || filled::filled(1)),
+        sound("sound, full, 120 nodes links with targets of 60 bytes", filled::full_of_links),
+        sound(SOUND_ONE_CHAIN, filled::one_chain),
         serve("fresh but for one process", filled::nearly_fresh),
         serve("half full", || filled::filled(2)),
         serve("full", || filled::filled(1)),
         serve_run("fresh but for one process", filled::nearly_fresh),
         serve_run("half full", || filled::filled(2)),
         serve_run("full", || filled::filled(1)),
-        walk("`/`, the longest walk's tables", false),
-        walk("127 names and 8 links of 32 names each, the same tables", true),
+        walk("`/`, the longest walk's tables", || (filled::long_walk().0, b"/".to_vec())),
+        walk("127 names and 8 links of 32 names each, the same tables", filled::long_walk),
+        walk("127 names and 8 links of 32 names each, one within the other", filled::nested_walk),
     ];
     Group { name: "tables", rounds: 25, runs: 200, works }
 }

@@ -1,13 +1,13 @@
 //! What a granted call did, told from the tables before and after it.
 
 use tickbutton::tables::{Hold, Tables};
-use tickbutton::{shown, Call};
+use tickbutton::{shown, Call, Granted};
 
 use crate::refused::{end_holder, trail};
 use crate::wording;
 
 /// What was held, seen or done.
-pub fn outcome(before: &Tables<'_>, after: &Tables<'_>, call: &Call, seen: bool) -> String {
+pub fn outcome(before: &Tables<'_>, after: &Tables<'_>, call: &Call, granted: Granted) -> String {
     let done = match call {
         Call::Enter { process, user } => {
             Some(format!("process {process} works for {} from now on", wording::user(*user)))
@@ -17,7 +17,7 @@ pub fn outcome(before: &Tables<'_>, after: &Tables<'_>, call: &Call, seen: bool)
         Call::Exit { process } => {
             Some(format!("it leaves and lets go of {}", own(before, *process)))
         }
-        Call::Check { .. } | Call::Look { .. } | Call::Use { .. } => found(before, call, seen),
+        Call::Check { .. } | Call::Look { .. } | Call::Use { .. } => found(before, call, granted),
         Call::Unlink { .. } | Call::Rmdir { .. } => removed(before, after, call),
         _ => made(before, after, call),
     };
@@ -36,27 +36,22 @@ fn forked(before: &Tables<'_>, process: u16, child: u16) -> String {
 }
 
 /// What a check, look or use found, and whose it is.
-fn found(tables: &Tables<'_>, call: &Call, seen: bool) -> Option<String> {
+fn found(tables: &Tables<'_>, call: &Call, granted: Granted) -> Option<String> {
     let trail = trail(tables, call)?;
     let way = match trail.links.len() {
         0 => String::new(),
-        1 => format!("by the link {}, ", wording::paths(tables, &trail.links)),
-        _ => format!("by the links {}, ", wording::paths(tables, &trail.links)),
+        1 => format!("by the link {}, ", wording::paths(tables, trail.links.iter())),
+        _ => format!("by the links {}, ", wording::paths(tables, trail.links.iter())),
     };
     let Some((place, node)) = trail.end() else {
         return Some(format!("{way}/ is there always"));
     };
     let what = format!("{way}{} is {}", wording::path(tables, place), wording::kind(tables, node));
-    let holder = end_holder(tables, call.process(), place).filter(|_| seen);
-    Some(match holder {
-        Some(hold) => {
-            format!(
-                "{what}, but {} holds it and may change it",
-                wording::process(tables, hold.process)
-            )
-        }
-        None => format!("{what} and stays so for {}", user_of(tables, call)),
-    })
+    if let Granted::Seen(_) = granted {
+        let holder = wording::process(tables, end_holder(tables, call.process(), place)?.process);
+        return Some(format!("{what}, but {holder} holds it and may change it"));
+    }
+    Some(format!("{what} and stays so for {}", user_of(tables, call)))
 }
 
 /// The caller's user.
@@ -82,10 +77,8 @@ fn removed(before: &Tables<'_>, after: &Tables<'_>, call: &Call) -> Option<Strin
     let trail = trail(before, call)?;
     let (place, node) = trail.end()?;
     let left = match after.node(node).map(|node| usize::from(node.entries)) {
-        Some(names) if before.node(node).is_some_and(|node| usize::from(node.entries) > names) => {
-            format!(", and what it led to keeps {}", wording::count(names, "name"))
-        }
-        _ => String::new(),
+        Some(names) => format!(", and what it led to keeps {}", wording::count(names, "name")),
+        None => String::new(),
     };
     let path = wording::path(before, place);
     Some(format!("{path} is gone{left}, and stays so for {}", user_of(before, call)))

@@ -20,7 +20,7 @@ use std::path::Path;
 use std::process::ExitCode;
 
 use stage::Stage;
-use story::Step;
+use story::{Bad, Step};
 
 /// Plays the story that the only argument names.
 fn main() -> ExitCode {
@@ -42,7 +42,8 @@ fn main() -> ExitCode {
 fn play(file: &Path) -> Result<(), String> {
     let text = std::fs::read(file).map_err(|error| format!("{}: {error}", file.display()))?;
     let steps = story::steps(&text).map_err(|bad| story::report(file, &bad))?;
-    let told = tell(&steps, file.parent().unwrap_or(Path::new("")))?;
+    let told = tell(&steps, file.parent().unwrap_or(Path::new("")));
+    let told = told.map_err(|bad| story::report(file, &[bad]))?;
     match io::stdout().write_all(told.as_bytes()) {
         Err(error) if error.kind() != ErrorKind::BrokenPipe => Err(error.to_string()),
         _ => Ok(()),
@@ -50,15 +51,15 @@ fn play(file: &Path) -> Result<(), String> {
 }
 
 /// The story with its verdicts; files that it names are looked up in the folder.
-fn tell(steps: &[Step], folder: &Path) -> Result<String, String> {
+fn tell(steps: &[Step], folder: &Path) -> Result<String, Bad> {
     let mut told = String::new();
     let mut stage = Stage::fresh();
     let mut place = 0;
     for step in steps {
         match step {
             Step::Told(text) => told.push_str(text),
-            Step::Tables(file) => {
-                stage = Stage::of_file(&folder.join(file))?;
+            Step::Tables(file, line) => {
+                stage = Stage::of_file(&folder.join(file)).map_err(|reason| (*line, reason))?;
                 told.push_str(&format!("      the tables of {file}"));
             }
             Step::Call(asked) => {

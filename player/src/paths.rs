@@ -1,15 +1,11 @@
 //! What is wrong with a path or target that was refused.
 
+use tickbutton::limits::{LONGEST_NAME, LONGEST_PATH, LONGEST_TARGET};
 use tickbutton::shown;
-
-/// Most bytes of a path, of a target, and of a name.
-const PATH: usize = 255;
-const TARGET: usize = 64;
-const NAME: usize = 14;
 
 /// What is wrong with a path, if anything is.
 pub fn path_fault(path: &[u8]) -> Option<String> {
-    fault("path", path, PATH).or_else(|| {
+    fault("path", path, LONGEST_PATH).or_else(|| {
         (path.first() != Some(&b'/'))
             .then(|| format!("the path {} does not begin with /", shown(path)))
     })
@@ -17,7 +13,7 @@ pub fn path_fault(path: &[u8]) -> Option<String> {
 
 /// What is wrong with a link's target, if anything is.
 pub fn target_fault(target: &[u8]) -> Option<String> {
-    fault("target", target, TARGET)
+    fault("target", target, LONGEST_TARGET)
 }
 
 /// What paths and targets may not have alike.
@@ -43,10 +39,10 @@ fn name_fault(name: &[u8]) -> Option<String> {
     if name.is_empty() {
         return Some("two / follow each other".to_string());
     }
-    if name.len() > NAME {
+    if name.len() > LONGEST_NAME {
         let length = name.len();
         return Some(format!(
-            "the name {} has {length} bytes, and {NAME} are the most",
+            "the name {} has {length} bytes, and {LONGEST_NAME} are the most",
             shown(name)
         ));
     }

@@ -1,6 +1,7 @@
 //! The reasons of refusals, as specific as the tables allow. Where nothing more is found, the
 //! refusal's short text is told.
 
+use tickbutton::limits::{HEAD, MOST_LINKS};
 use tickbutton::tables::{Hold, Place, Role, Tables};
 use tickbutton::tables::{ENTRY_ROWS, HOLD_ROWS, NODE_ROWS, PROCESS_ROWS};
 use tickbutton::{shown, Call, Refusal};
@@ -8,9 +9,6 @@ use tickbutton::{shown, Call, Refusal};
 use crate::paths::{path_fault, target_fault};
 use crate::trail::{follow, Stop, Trail};
 use crate::wording;
-
-/// The bytes of a record before its paths.
-const HEADER: usize = 7;
 
 /// Why a call was refused.
 pub fn reason(tables: &Tables<'_>, call: &Call, refusal: Refusal) -> String {
@@ -87,11 +85,10 @@ fn stopped(tables: &Tables<'_>, call: &Call) -> Option<String> {
 fn stop_reason(tables: &Tables<'_>, trail: &Trail) -> Option<String> {
     match &trail.stop {
         Stop::NinthLink(place) => {
-            let mut links = trail.links.clone();
-            links.dedup();
-            let (links, ninth) = (wording::paths(tables, &links), wording::path(tables, place));
+            let links = wording::paths(tables, trail.links_once());
+            let ninth = wording::path(tables, place);
             Some(format!(
-                "the path leads through {links}, and after 8 links comes another, {ninth}"
+                "the path leads through {links}, and after {MOST_LINKS} links comes another, {ninth}"
             ))
         }
         Stop::Missing(place) => Some(format!("there is no {}", wording::path(tables, place))),
@@ -201,28 +198,20 @@ fn no_hold_row(tables: &Tables<'_>, call: &Call) -> Option<String> {
 fn lacking(own: &[Hold], trail: &Trail) -> usize {
     let has =
         |place: &Place, role| own.iter().any(|hold| hold.place == *place && hold.role == role);
-    let mut links: Vec<&Place> = Vec::new();
-    for place in &trail.links {
-        if !has(place, Role::Element) && !links.contains(&place) {
-            links.push(place);
-        }
-    }
+    let links = trail.links_once().filter(|place| !has(place, Role::Element)).count();
     let end = trail.end().is_some_and(|(place, _)| !has(place, Role::End));
-    links.len() + usize::from(end)
+    links + usize::from(end)
 }
 
 /// Why bytes that are no record of a call were refused.
 pub fn reason_of_bytes(bytes: &[u8], refusal: Refusal) -> String {
-    let Some(header) = bytes.first_chunk::<HEADER>() else {
-        return format!(
-            "there are {}, and a record has {HEADER} or more",
-            count_bytes(bytes.len())
-        );
+    let Some(head) = bytes.first_chunk::<HEAD>() else {
+        return format!("there are {}, and a record has {HEAD} or more", count_bytes(bytes.len()));
     };
-    let bits = header.iter().fold(0u64, |bits, byte| bits << 8 | u64::from(*byte));
+    let bits = head.iter().fold(0u64, |bits, byte| bits << 8 | u64::from(*byte));
     let (call, process, argument) = (bits >> 51, bits >> 35 & 0xFFFF, bits >> 19 & 0xFFFF);
     let (length1, length2) = ((bits >> 11 & 0xFF) as usize, (bits >> 3 & 0xFF) as usize);
-    let full = HEADER + length1 + length2;
+    let full = HEAD + length1 + length2;
     match refusal {
         Refusal::ShortRecord => {
             format!("there are {}, and the record has {full}", count_bytes(bytes.len()))
@@ -233,7 +222,7 @@ pub fn reason_of_bytes(bytes: &[u8], refusal: Refusal) -> String {
         Refusal::BadField if call == 2 && argument == 0 => "0 is no number of a child".to_string(),
         Refusal::BadField => format!("call {call} has an argument or a path that it does not take"),
         _ => {
-            let (path1, path2) = bytes[HEADER..full].split_at(length1);
+            let (path1, path2) = bytes[HEAD..full].split_at(length1);
             let second = if call == 10 { target_fault(path2) } else { path_fault(path2) };
             path_fault(path1).or(second).unwrap_or_else(|| refusal.to_string())
         }

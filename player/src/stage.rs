@@ -3,7 +3,7 @@
 use std::path::Path;
 
 use tickbutton::tables::{Tables, WORDS};
-use tickbutton::{archive, Answer, Call, Refusal};
+use tickbutton::{archive, Answer, Call, Refusal, Service};
 
 use crate::story::Asked;
 use crate::{granted, refused, wording};
@@ -16,9 +16,7 @@ pub struct Stage {
 impl Stage {
     /// Fresh tables.
     pub fn fresh() -> Stage {
-        let mut words = vec![0; WORDS];
-        archive::fresh(&mut words);
-        Stage { words }
+        Stage { words: Service::new().into_words() }
     }
 
     /// The words of a file, four bytes each, the lowest first; sound or not.
@@ -32,13 +30,14 @@ impl Stage {
         Ok(Stage { words: bytes.chunks(4).map(word).collect() })
     }
 
-    /// Makes one call and tells who called, what, and the verdict with its reason.
+    /// Makes one call and tells who called, what, and the verdict with its reason, and how many
+    /// bytes behind the record were not looked at.
     pub fn play(&mut self, asked: &Asked) -> String {
         match asked {
             Asked::InWords(call) => self.play_call(call),
             Asked::Bytes(bytes) => match Call::read(bytes) {
-                Ok((call, _)) => self.play_call(&call),
-                Err(_) => self.play_bytes(bytes),
+                Ok((call, taken)) => self.play_call(&call) + &left_over(bytes, taken),
+                Err(not_read) => self.play_bytes(bytes) + &left_over(bytes, not_read.taken),
             },
         }
     }
@@ -49,16 +48,16 @@ impl Stage {
         let before = self.words.clone();
         let answer = match call.record() {
             Ok(record) => archive::serve(&mut self.words, &record).0,
-            Err(refusal) => match archive::serve(&mut self.words, &[0; 7]).0 {
-                Answer::Refused(1) => Answer::Refused(1),
-                _ => Answer::Refused(refusal.number()),
+            Err(refusal) => match archive::sound(&self.words) {
+                Answer::Done(_) => Answer::Refused(refusal.number()),
+                unsound => unsound,
             },
         };
         let (before, after) = (Tables::of(&before), Tables::of(&self.words));
         let reason = match answer.granted() {
             Err(Refusal::Unsound) => self.unsound(),
             Err(refusal) => refused::reason(&before, call, refusal),
-            Ok(_) => granted::outcome(&before, &after, call, answer.word() == "seen"),
+            Ok(granted) => granted::outcome(&before, &after, call, granted),
         };
         let line = call.to_string();
         let words = line.split_once(' ').map_or("", |(_, words)| words);
@@ -82,6 +81,17 @@ impl Stage {
             WORDS => Refusal::Unsound.to_string(),
             count => format!("the tables have {count} words, and {WORDS} is their size"),
         }
+    }
+}
+
+/// How many bytes stand behind a record of which so many were taken; nothing is said of a record
+/// that is cut off, of which none are.
+fn left_over(bytes: &[u8], taken: usize) -> String {
+    match bytes.len() - taken {
+        rest if taken > 0 && rest > 0 => {
+            format!("; not looked at: {} behind the record", wording::count(rest, "byte"))
+        }
+        _ => String::new(),
     }
 }
 

@@ -9,8 +9,8 @@ use tickbutton::Call;
 pub enum Step {
     /// Nothing: a comment or an empty line, shown as it is.
     Told(String),
-    /// To go on from the words of a file, named from the story's folder.
-    Tables(String),
+    /// To go on from the words of a file, named from the story's folder; and the line's number.
+    Tables(String, usize),
     /// A call.
     Call(Asked),
 }
@@ -23,17 +23,17 @@ pub enum Asked {
     Bytes(Vec<u8>),
 }
 
-/// A line that is no call: its number and why.
+/// A line that cannot be played: its number and why.
 pub type Bad = (usize, String);
 
-/// What all lines of a story ask for, or all lines that are no calls.
+/// What all lines of a story ask for, or all lines that ask for nothing that can be played.
 pub fn steps(text: &[u8]) -> Result<Vec<Step>, Vec<Bad>> {
     let mut steps = Vec::new();
     let mut bad = Vec::new();
     let text = text.strip_suffix(b"\n").unwrap_or(text);
     for (number, line) in (1..).zip(text.split(|byte| *byte == b'\n')) {
         let read = std::str::from_utf8(line).map_err(|_| "the line is not UTF-8".to_string());
-        match read.and_then(step) {
+        match read.and_then(|line| step(number, line)) {
             Ok(step) => steps.push(step),
             Err(reason) => bad.push((number, reason)),
         }
@@ -52,15 +52,15 @@ pub fn report(file: &Path, bad: &[Bad]) -> String {
 }
 
 /// What one line asks for.
-fn step(line: &str) -> Result<Step, String> {
+fn step(number: usize, line: &str) -> Result<Step, String> {
     let line = line.trim();
     if line.is_empty() || line.starts_with('#') {
         return Ok(Step::Told(line.to_string()));
     }
-    match line.split_once(char::is_whitespace) {
-        Some(("tables", file)) => Ok(Step::Tables(file.trim().to_string())),
-        Some(("raw", digits)) => Ok(Step::Call(Asked::Bytes(bytes(digits)?))),
-        _ if line == "raw" => Ok(Step::Call(Asked::Bytes(Vec::new()))),
+    match line.split_once(char::is_whitespace).unwrap_or((line, "")) {
+        ("tables", "") => Err("behind `tables` stands the name of a file".to_string()),
+        ("tables", file) => Ok(Step::Tables(file.trim().to_string(), number)),
+        ("raw", digits) => Ok(Step::Call(Asked::Bytes(bytes(digits)?))),
         _ => match line.parse() {
             Ok(call) => Ok(Step::Call(Asked::InWords(call))),
             Err(reason) => Err(reason.to_string()),

@@ -2,10 +2,8 @@
 
 use std::collections::VecDeque;
 
+use tickbutton::limits::MOST_LINKS;
 use tickbutton::tables::{Kind, Place, Tables, START};
-
-/// The most links that a walk follows.
-const LINKS: usize = 8;
 
 /// Where a path led.
 pub struct Trail {
@@ -37,6 +35,12 @@ impl Trail {
             _ => None,
         }
     }
+
+    /// The links followed, each once, where it was met first.
+    pub fn links_once(&self) -> impl Iterator<Item = &Place> {
+        let is_first = |(met, place): &(usize, &Place)| !self.links[..*met].contains(place);
+        self.links.iter().enumerate().filter(is_first).map(|(_, place)| place)
+    }
 }
 
 /// Follows a valid path; a link at its end is followed where asked.
@@ -51,7 +55,7 @@ pub fn follow(tables: &Tables<'_>, path: &[u8], last_too: bool) -> Trail {
         let end = ahead.is_empty();
         match node.map(|node| (node.kind, node.target)) {
             Some((Kind::Link, target)) if !end || last_too => {
-                if links.len() == LINKS {
+                if links.len() == MOST_LINKS {
                     return Trail { links, stop: Stop::NinthLink(place) };
                 }
                 links.push(place);

@@ -28,8 +28,8 @@ pub fn path(tables: &Tables<'_>, place: &Place) -> String {
 }
 
 /// Paths one after another.
-pub fn paths(tables: &Tables<'_>, places: &[Place]) -> String {
-    let all: Vec<String> = places.iter().map(|place| path(tables, place)).collect();
+pub fn paths<'trail>(tables: &Tables<'_>, places: impl Iterator<Item = &'trail Place>) -> String {
+    let all: Vec<String> = places.map(|place| path(tables, place)).collect();
     all.join(", ")
 }
 

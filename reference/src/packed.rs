@@ -56,7 +56,7 @@ impl PackedName {
 /// An entry row as it stands.
 #[derive(Clone, Copy, Debug, PartialEq, Eq)]
 pub struct PackedEntry {
-    /// The directory's node, 16 bits; 0 marks a free row.
+    /// The node of the directory; a free row has none, which is 0.
     pub directory: u16,
     /// The node led to, 16 bits.
     pub node: u16,
@@ -67,11 +67,11 @@ pub struct PackedEntry {
 /// A node row as it stands.
 #[derive(Clone, Copy, Debug, PartialEq, Eq)]
 pub struct PackedNode {
-    /// The kind, 2 bits; 0 marks a free row.
+    /// What the node is, in 2 bits; nothing, which is 0, where the row is free.
     pub kind: u32,
-    /// The length of the target, 7 bits.
+    /// How long the target is, in 7 bits.
     pub target_length: u32,
-    /// The entries that lead here, 10 bits.
+    /// How many entries lead to it, in 10 bits.
     pub entries: u32,
     /// The 13 bits that ought to be zero.
     pub zero_bits: u32,
@@ -99,7 +99,7 @@ impl PackedNode {
 /// A hold row as it stands.
 #[derive(Clone, Copy, Debug, PartialEq, Eq)]
 pub struct PackedHold {
-    /// The directory's node, 16 bits; 0 marks a free row.
+    /// The node of the directory; a free row has none, which is 0.
     pub directory: u16,
     /// The process, 16 bits.
     pub process: u16,
@@ -114,7 +114,7 @@ pub struct PackedHold {
 /// A process row as it stands.
 #[derive(Clone, Copy, Debug, PartialEq, Eq)]
 pub struct PackedProcess {
-    /// The process number, 16 bits; 0 marks a free row.
+    /// The number of the process; a free row has none, which is 0.
     pub process: u16,
     /// The user, 16 bits.
     pub user: u16,

@@ -58,7 +58,7 @@ static void service(void) {
     free(words);
 }
 
-/* A run of an enter, a check of / and the front of a third record over fresh tables, their soundness, and the walks of / and of /fox. */
+/* A run of an enter, a check of / and the front of a third record, over words that are no tables and over fresh tables, and the walks of / and of /fox. */
 static void runs_and_walks(void) {
     static const uint8_t records[] = {0x08, 0x00, 0xA0, 0x0F, 0xA0, 0x00, 0x00, 0x28, 0x00, 0xA0, 0x00, 0x00, 0x08, 0x00, '/', 0x28};
     static const uint8_t path[] = {'/', 'f', 'o', 'x'};
@@ -68,7 +68,10 @@ static void runs_and_walks(void) {
     uint64_t taken[1] = {0};
     const uint64_t behind = answers[2];
     expect("sound, any bits", tickbutton_sound(words, TICKBUTTON_WORDS), TICKBUTTON_REFUSED, TICKBUTTON_UNSOUND, 0);
-    tickbutton_fresh(words, TICKBUTTON_WORDS);
+    wrong |= tickbutton_serve_run(words, TICKBUTTON_WORDS, records, sizeof records, answers, 3, taken) != 2 || taken[0] != 15;
+    expect("run, any bits, enter", answers[0], TICKBUTTON_REFUSED, TICKBUTTON_UNSOUND, 0);
+    expect("run, any bits, check", answers[1], TICKBUTTON_REFUSED, TICKBUTTON_UNSOUND, 0);
+    expect("fresh", tickbutton_fresh(words, TICKBUTTON_WORDS), TICKBUTTON_DONE, 0, 0);
     expect("sound", tickbutton_sound(words, TICKBUTTON_WORDS), TICKBUTTON_DONE, 0, 0);
     wrong |= tickbutton_serve_run(words, TICKBUTTON_WORDS, records, sizeof records, answers, 3, taken) != 2 || taken[0] != 15;
     expect("run, enter", answers[0], TICKBUTTON_DONE, 20, 0);
@@ -78,7 +81,7 @@ static void runs_and_walks(void) {
     expect("walk to /", tickbutton_walk(words, TICKBUTTON_WORDS, path, 1, true, goal), TICKBUTTON_DONE, 1, 0);
     wrong |= goal[1] != 0;
     expect("walk to /fox", tickbutton_walk(words, TICKBUTTON_WORDS, path, 4, true, goal), TICKBUTTON_DONE, 0, 0);
-    wrong |= goal[0] != 0 || goal[1] != 1 || goal[2] != 0x03666F78 || goal[6] != 0;
+    wrong |= goal[0] != 0 || goal[1] != 1 || goal[2] != 0x03666F78 || goal[3] != 0 || goal[4] != 0 || goal[5] != 0 || goal[6] != 0;
     free(words);
     free(answers);
     free(goal);

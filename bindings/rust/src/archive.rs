@@ -41,6 +41,8 @@ extern "C" {
 
 /// How many numbers the goal of a walk has.
 pub const GOAL_NUMBERS: usize = 46;
+/// How many fields reading a record gives.
+pub const FIELDS: usize = 6;
 
 /// An answer and the bytes taken, as the archive tells them in one number: the answer's number in
 /// the lower 32 bits, its word in the two above, the bytes taken above those.
@@ -58,8 +60,8 @@ fn answer(told: u64) -> (Answer, usize) {
 /// Reads the record at the front of the bytes: done with the call's number or refused with 17, 2
 /// or 3; the bytes taken; and the process, the argument, and the start and length of path 1 and
 /// path 2, all 0 where it is refused.
-pub fn read(bytes: &[u8]) -> (Answer, usize, [u32; 6]) {
-    let mut fields = [0; 6];
+pub fn read(bytes: &[u8]) -> (Answer, usize, [u32; FIELDS]) {
+    let mut fields = [0; FIELDS];
     // SAFETY: the bytes are read alone, and six numbers are written.
     let told = unsafe { tickbutton_read(bytes.as_ptr(), bytes.len(), fields.as_mut_ptr()) };
     let (answer, taken) = answer(told);
@@ -119,7 +121,8 @@ pub fn sound(words: &[u32]) -> Answer {
 /// node that it leads to, 0 for an absence, or refused with 1, 3, 7, 8 or 9. The goal becomes the
 /// number of elements, the end entry and the elements in the order met, each as its directory and
 /// the four words of its name block, and zeros behind them; where there is no end entry its words
-/// are zeros, and all are where the walk is refused.
+/// are zeros, and all are where the walk is refused. [`Goal::of_numbers`](crate::Goal::of_numbers)
+/// reads them.
 pub fn walk(
     words: &[u32],
     path: &[u8],
@@ -142,7 +145,8 @@ pub fn walk(
 
 /// Serves record after record over the words, as long as a whole one is left and a slot for its
 /// answer: how many were served and how many bytes they are. Each slot in front gets its record's
-/// answer, which `told_answer` reads; those behind stay. The tables are tested once.
+/// answer, which `told_answer` reads; those behind stay. The tables are tested once; where they are
+/// not sound, every record is answered with refused 1, and the run goes on to its end all the same.
 pub fn serve_run(words: &mut [u32], records: &[u8], answers: &mut [u64]) -> (usize, usize) {
     let mut taken = 0;
     // SAFETY: each slice is passed with its own length; words, answers and one number are written.

@@ -1,9 +1,10 @@
 //! The thirteen calls.
 
-use crate::{archive, Answer, Refusal};
+use std::error::Error;
+use std::fmt;
 
-/// The bytes of the longest record: 7, and two paths of 255.
-pub const LONGEST_RECORD: usize = 517;
+use crate::limits::LONGEST_RECORD;
+use crate::{archive, Answer, Refusal};
 
 /// One call. Any numbers and bytes may stand in it; what is not allowed is refused when the call
 /// is made. `process` is the one that calls, and `path` is path 1. A path is bytes:
@@ -38,6 +39,25 @@ pub enum Call {
     /// Call 13: an empty directory is removed.
     Rmdir { process: u16, path: Vec<u8> },
 }
+
+/// Why no call was read, and how many bytes were taken all the same: the record's, or none where
+/// it is cut off, so that a loop over a stream has to stop there.
+#[derive(Clone, Copy, Debug, PartialEq, Eq, Hash)]
+pub struct NotRead {
+    /// The reason.
+    pub refusal: Refusal,
+    /// The bytes taken.
+    pub taken: usize,
+}
+
+impl fmt::Display for NotRead {
+    /// The refusal's short text and the bytes taken.
+    fn fmt(&self, out: &mut fmt::Formatter<'_>) -> fmt::Result {
+        write!(out, "{}, {} bytes taken", self.refusal, self.taken)
+    }
+}
+
+impl Error for NotRead {}
 
 /// A call as the fields of its record; what it has not is 0 or empty.
 #[derive(Clone, Copy, Debug, PartialEq, Eq)]
@@ -94,16 +114,24 @@ impl Call {
         }
     }
 
-    /// Reads the record at the front of the bytes: the call and the bytes taken, or the refusal
-    /// and the bytes taken.
-    pub fn read(bytes: &[u8]) -> Result<(Call, usize), (Refusal, usize)> {
+    /// Reads the record at the front of the bytes: the call and the bytes taken.
+    ///
+    /// ```
+    /// use tickbutton::{Call, NotRead, Refusal};
+    ///
+    /// let read = Call::read(b"\x28\x00\xA0\x00\x00\x38\x00/in/fox and more");
+    /// assert_eq!(read, Ok((Call::Check { process: 20, path: "/in/fox".into() }, 14)));
+    /// let cut_off = NotRead { refusal: Refusal::ShortRecord, taken: 0 };
+    /// assert_eq!(Call::read(b"\x28\x00"), Err(cut_off));
+    /// ```
+    pub fn read(bytes: &[u8]) -> Result<(Call, usize), NotRead> {
         let (answer, taken, [process, argument, start1, length1, start2, length2]) =
             archive::read(bytes);
         let part = |start, length| bytes[start as usize..][..length as usize].to_vec();
         match answer {
             Answer::Refused(number) => {
-                let refusal = Refusal::of_number(number);
-                Err((refusal.expect("reading refuses with 17, 2 or 3"), taken))
+                let refusal = Refusal::of_number(number).expect("reading refuses with 17, 2 or 3");
+                Err(NotRead { refusal, taken })
             }
             number => {
                 let paths = [part(start1, length1), part(start2, length2)];

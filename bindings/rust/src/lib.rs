@@ -18,6 +18,9 @@
 //! # }
 //! ```
 //!
+//! Names, targets and paths have the lengths of [`limits`], and the walk of a path takes stack for
+//! each of its names: a thread that calls needs [`limits::STACK`] bytes.
+//!
 //! What each function of the archive gives is proved of its code (crates/exports). That it is
 //! declared right here is not, so the declarations stand in one place, the module [`archive`]; what
 //! else is here is tested.
@@ -28,13 +31,16 @@
 mod answers;
 pub mod archive;
 mod calls;
+mod goals;
+pub mod limits;
 mod refusals;
 mod service;
 pub mod tables;
 mod text;
 
 pub use answers::{Answer, Granted};
-pub use calls::{Call, LONGEST_RECORD};
+pub use calls::{Call, NotRead};
+pub use goals::Goal;
 pub use refusals::Refusal;
 pub use service::Service;
 pub use text::{shown, NoCall};

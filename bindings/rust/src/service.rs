@@ -1,7 +1,8 @@
 //! A service that owns its tables.
 
+use crate::limits::{HEAD, LONGEST_RECORD};
 use crate::tables::{Tables, WORDS};
-use crate::{archive, Answer, Call, Granted, Refusal, LONGEST_RECORD};
+use crate::{archive, Answer, Call, Goal, Granted, Refusal};
 
 /// The name guard with its own tables, which are sound at all times.
 #[derive(Clone, Debug, PartialEq, Eq)]
@@ -11,9 +12,14 @@ pub struct Service {
 
 impl Service {
     /// A service with fresh tables: the directory `/`, and nothing else.
+    ///
+    /// # Panics
+    ///
+    /// Where the archive refuses to make fresh tables of as many words as they have; it is proved
+    /// not to.
     pub fn new() -> Service {
         let mut words = vec![0; WORDS];
-        archive::fresh(&mut words);
+        assert_eq!(archive::fresh(&mut words), Answer::Done(0), "fresh tables have {WORDS} words");
         Service { words }
     }
 
@@ -73,6 +79,49 @@ impl Service {
     /// Serves the record at the front of the bytes: the answer, and the bytes taken.
     pub fn serve(&mut self, record: &[u8]) -> (Answer, usize) {
         archive::serve(&mut self.words, record)
+    }
+
+    /// Serves record after record as long as a whole one is left: the answers, and the bytes taken.
+    /// The tables are tested once, not before each record.
+    ///
+    /// ```
+    /// use tickbutton::{Answer, Call, Refusal, Service};
+    ///
+    /// let enter = Call::Enter { process: 20, user: 500 }.record()?;
+    /// let cut_off = &enter[..3];
+    /// let (answers, taken) = Service::new().serve_run(&[&enter, &enter, cut_off].concat());
+    /// assert_eq!(answers, [Answer::Done(20), Answer::Refused(5)]);
+    /// assert_eq!(taken, 2 * enter.len());
+    /// # Ok::<(), Refusal>(())
+    /// ```
+    pub fn serve_run(&mut self, records: &[u8]) -> (Vec<Answer>, usize) {
+        let mut slots = vec![0; records.len() / HEAD];
+        let (served, taken) = archive::serve_run(&mut self.words, records, &mut slots);
+        (slots[..served].iter().map(|slot| archive::told_answer(*slot)).collect(), taken)
+    }
+
+    /// Walks a path, a link at its last name too where that is asked, and tells where it leads.
+    /// Takes no hold: what is told may change with the next call.
+    ///
+    /// ```
+    /// use tickbutton::{Call, Refusal, Service};
+    ///
+    /// let mut service = Service::new();
+    /// service.call(&Call::Enter { process: 10, user: 0 })?;
+    /// service.call(&Call::Symlink { process: 10, path: "/way".into(), target: "/fox".into() })?;
+    /// let goal = service.walk(b"/way", true)?;
+    /// assert_eq!(goal.node, 0);
+    /// assert_eq!(goal.end.map(|end| end.name), Some(b"fox".to_vec()));
+    /// assert_eq!(goal.elements[0].name, b"way");
+    /// # Ok::<(), Refusal>(())
+    /// ```
+    pub fn walk(&self, path: &[u8], follow_last: bool) -> Result<Goal, Refusal> {
+        let mut numbers = [0; archive::GOAL_NUMBERS];
+        match archive::walk(&self.words, path, follow_last, &mut numbers).granted()? {
+            Granted::Held(node) | Granted::Seen(node) | Granted::Done(node) => {
+                Ok(Goal::of_numbers(node, &numbers))
+            }
+        }
     }
 }
 

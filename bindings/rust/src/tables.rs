@@ -1,6 +1,8 @@
 //! The tables read row by row, for those who want to tell why a call was refused or show what
 //! stands where. Reading alone: only calls change the tables.
 
+use crate::limits::LONGEST_NAME;
+
 /// Words of the tables.
 pub const WORDS: usize = 8_512;
 /// Rows for entries: the names that can be present at once.
@@ -97,8 +99,9 @@ pub struct Tables<'words> {
 }
 
 impl<'words> Tables<'words> {
-    /// The tables of these words. Where they are too few, the rows beyond them are free; where they
-    /// are not sound, rows are as their bits say.
+    /// The tables of these words. Where they are too few, the rows beyond them are free. Where they
+    /// are not sound, something is read all the same: a role that is not the end's is an element's,
+    /// and a name or target longer than its room is as long as that.
     pub fn of(words: &'words [u32]) -> Tables<'words> {
         Tables { words }
     }
@@ -203,9 +206,9 @@ fn bytes(words: &[u32]) -> impl Iterator<Item = u8> + '_ {
     words.iter().flat_map(|word| word.to_be_bytes())
 }
 
-/// The place of a directory and a name block: a byte of length and 14 of name.
-fn place(directory: u16, block: &[u32]) -> Place {
+/// The place of a directory and a name block: a byte of length, and the name's behind it.
+pub(crate) fn place(directory: u16, block: &[u32]) -> Place {
     let mut bytes = bytes(block);
-    let length = bytes.next().unwrap_or(0).min(14);
-    Place { directory, name: bytes.take(usize::from(length)).collect() }
+    let length = bytes.next().map_or(0, usize::from).min(LONGEST_NAME);
+    Place { directory, name: bytes.take(length).collect() }
 }

@@ -8,32 +8,33 @@ use std::str::FromStr;
 
 use crate::Call;
 
-/// How a call is written: its word, whether it has an argument, and how many paths.
+/// How a call is written: its word, and what its argument and its paths are.
 struct Form {
     word: &'static str,
-    argument: bool,
-    paths: usize,
+    argument: Option<&'static str>,
+    paths: &'static [&'static str],
 }
 
-const fn form(word: &'static str, argument: bool, paths: usize) -> Form {
-    Form { word, argument, paths }
+/// The form of a call that has paths alone.
+const fn form(word: &'static str, paths: &'static [&'static str]) -> Form {
+    Form { word, argument: None, paths }
 }
 
 /// The forms of the calls 1 to 13.
 const FORMS: [Form; 13] = [
-    form("enter", true, 0),
-    form("fork", true, 0),
-    form("exec", false, 0),
-    form("exit", false, 0),
-    form("check", false, 1),
-    form("look", false, 1),
-    form("use", false, 1),
-    form("create", false, 1),
-    form("mkdir", false, 1),
-    form("symlink", false, 2),
-    form("link", false, 2),
-    form("unlink", false, 1),
-    form("rmdir", false, 1),
+    Form { word: "enter", argument: Some("the user"), paths: &[] },
+    Form { word: "fork", argument: Some("the child"), paths: &[] },
+    form("exec", &[]),
+    form("exit", &[]),
+    form("check", &["the path"]),
+    form("look", &["the path"]),
+    form("use", &["the path"]),
+    form("create", &["the path"]),
+    form("mkdir", &["the path"]),
+    form("symlink", &["the path", "the target"]),
+    form("link", &["the new path", "the old path"]),
+    form("unlink", &["the path"]),
+    form("rmdir", &["the path"]),
 ];
 
 /// Why a line is no call.
@@ -141,12 +142,12 @@ impl FromStr for Call {
         let place = FORMS.iter().position(|form| form.word == word);
         let place = place.ok_or_else(|| NoCall::Word(word.to_string()))?;
         let mut argument = 0;
-        if FORMS[place].argument {
-            argument = number_of(words.next().ok_or(NoCall::Missing("the user or child"))?)?;
+        if let Some(what) = FORMS[place].argument {
+            argument = number_of(words.next().ok_or(NoCall::Missing(what))?)?;
         }
         let mut paths = [Vec::new(), Vec::new()];
-        for path in paths.iter_mut().take(FORMS[place].paths) {
-            *path = bytes_of(words.next().ok_or(NoCall::Missing("a path"))?)?;
+        for (path, what) in paths.iter_mut().zip(FORMS[place].paths) {
+            *path = bytes_of(words.next().ok_or(NoCall::Missing(what))?)?;
         }
         match words.next() {
             Some(word) => Err(NoCall::TooMuch(word.to_string())),
@@ -162,10 +163,10 @@ impl fmt::Display for Call {
         let fields = self.fields();
         let form = &FORMS[fields.number as usize - 1];
         write!(out, "{} {}", fields.process, form.word)?;
-        if form.argument {
+        if form.argument.is_some() {
             write!(out, " {}", fields.argument)?;
         }
-        for path in [fields.path1, fields.path2].into_iter().take(form.paths) {
+        for path in [fields.path1, fields.path2].into_iter().take(form.paths.len()) {
             write!(out, " {}", shown(path))?;
         }
         Ok(())

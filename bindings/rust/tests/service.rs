@@ -1,7 +1,12 @@
-//! The service that owns its tables: calls, refusals, stored words, and what the tables show.
+//! The service that owns its tables: calls, runs, walks, refusals, stored words, and what the tables
+//! show.
 
-use tickbutton::tables::{Hold, Kind, Place, Process, Role, WORDS};
-use tickbutton::{Answer, Call, Granted, Refusal, Service};
+use std::error::Error;
+
+use tickbutton::archive::{serve_run, told_answer};
+use tickbutton::limits::{LONGEST_NAME, LONGEST_TARGET, MOST_LINKS};
+use tickbutton::tables::{Hold, Kind, Place, Process, Role, Tables, WORDS};
+use tickbutton::{Answer, Call, Goal, Granted, NotRead, Refusal, Service};
 
 /// A service on which these lines of text were called, all granted.
 fn after(lines: &[&str]) -> Service {
@@ -78,10 +83,91 @@ fn records_are_served_one_after_another() {
     let two = [check.clone(), check.clone()].concat();
     assert_eq!(service.serve(&two), (Answer::Held(0), check.len()));
     assert_eq!(service.serve(&check[1..3]), (Answer::Refused(17), 0));
-    assert_eq!(Call::read(&check[..6]), Err((Refusal::ShortRecord, 0)));
-    assert_eq!(Call::read(&[0; 7]), Err((Refusal::BadField, 7)));
     let (call, taken) = Call::read(&two).expect("a record");
     assert_eq!((call.to_string().as_str(), taken), ("20 check /in/fox", check.len()));
+}
+
+#[test]
+fn what_is_not_read_is_an_error() {
+    let not_read = |bytes: &[u8]| Call::read(bytes).expect_err("no record of a call");
+    let cut_off = NotRead { refusal: Refusal::ShortRecord, taken: 0 };
+    assert_eq!(not_read(&[0x28, 0, 0xA0, 0, 0, 8]), cut_off);
+    assert_eq!(not_read(&[0; 7]), NotRead { refusal: Refusal::BadField, taken: 7 });
+    let error: Box<dyn Error> = cut_off.into();
+    assert_eq!(error.to_string(), "the record is cut off, 0 bytes taken");
+}
+
+/// The records of these lines, one behind the other.
+fn records(lines: &[&str]) -> Vec<u8> {
+    let record = |line: &&str| line.parse::<Call>().expect("a call").record().expect("valid");
+    lines.iter().flat_map(record).collect()
+}
+
+#[test]
+fn a_run_answers_as_its_records_one_by_one() {
+    let lines = ["20 check /in/fox", "30 exec", "20 create /in/fox", "20 exit"];
+    let mut one_by_one = after(&OPENING);
+    let mut run = one_by_one.clone();
+    let expected: Vec<Answer> =
+        lines.iter().map(|line| one_by_one.serve(&records(&[line])).0).collect();
+    let whole = records(&lines);
+    let cut_off = [&whole[..], &[0x28, 0, 0xA0]].concat();
+    assert_eq!(run.serve_run(&cut_off), (expected, whole.len()));
+    assert_eq!(run, one_by_one);
+    assert_eq!(run.serve_run(&[]), (Vec::new(), 0));
+}
+
+#[test]
+fn a_run_over_unsound_tables_refuses_each_record() {
+    let mut words = vec![0; WORDS];
+    let mut slots = [7; 3];
+    let two = records(&["20 enter 500", "20 check /"]);
+    assert_eq!(serve_run(&mut words, &two, &mut slots), (2, two.len()));
+    assert_eq!(slots.map(told_answer)[..2], [Answer::Refused(1); 2]);
+    assert_eq!((slots[2], words), (7, vec![0; WORDS]));
+}
+
+#[test]
+fn a_walk_tells_its_end_and_its_elements() {
+    let service = after(&[
+        "10 enter 0",
+        "10 mkdir /in",
+        "10 create /in/fox",
+        "10 symlink /way in/next",
+        "10 symlink /in/next fox",
+        "10 symlink /loop loop",
+        "10 symlink /top /",
+    ]);
+    let place = |directory, name: &[u8]| Place { directory, name: name.to_vec() };
+    let elements = vec![place(1, b"way"), place(2, b"next")];
+    let found = Goal { node: 3, end: Some(place(2, b"fox")), elements };
+    assert_eq!(service.walk(b"/way", true), Ok(found));
+    let link = Goal { node: 4, end: Some(place(1, b"way")), elements: Vec::new() };
+    assert_eq!(service.walk(b"/way", false), Ok(link));
+    let longest = [b'n'; LONGEST_NAME];
+    let absent = Goal { node: 0, end: Some(place(1, &longest)), elements: Vec::new() };
+    assert_eq!(service.walk(&[b"/", &longest[..]].concat(), true), Ok(absent));
+    let start = |elements| Ok(Goal { node: 1, end: None, elements });
+    assert_eq!(service.walk(b"/", true), start(Vec::new()));
+    assert_eq!(service.walk(b"/top", true), start(vec![place(1, b"top")]));
+    assert_eq!(service.walk(b"/loop", true), Err(Refusal::NinthLink));
+    assert_eq!(service.walk(b"in", true), Err(Refusal::BadPath));
+    assert_eq!(service.walk(b"/in/fox/fur", true), Err(Refusal::NameIsFile));
+}
+
+#[test]
+fn a_walk_follows_the_most_links() {
+    let mut service = after(&["10 enter 0"]);
+    for link in 1..=MOST_LINKS {
+        answer(&mut service, &format!("10 symlink /{link} {}", link + 1)).expect("made");
+    }
+    let goal = service.walk(b"/1", true).expect("as many links as are followed");
+    let names: Vec<Vec<u8>> = goal.elements.into_iter().map(|element| element.name).collect();
+    assert_eq!(
+        names,
+        (1..=MOST_LINKS).map(|link| link.to_string().into_bytes()).collect::<Vec<_>>()
+    );
+    assert_eq!(goal.end, Some(Place { directory: 1, name: b"9".to_vec() }));
 }
 
 #[test]
@@ -104,4 +190,23 @@ fn the_tables_show_what_was_done() {
     let of_20 = |place: &Place, role| Hold { place: place.clone(), process: 20, role };
     let holds = [of_20(&fox, Role::End), of_20(&way, Role::End), of_20(&way, Role::Element)];
     assert!(tables.holds().eq(holds));
+}
+
+#[test]
+fn rows_that_are_not_sound_are_read_all_the_same() {
+    let mut words = vec![0; WORDS];
+    words[0] = 0x0001_0002;
+    words[1..5].fill(0xFF61_6161);
+    words[2_560] = 0xFF80_0000;
+    words[2_561..2_577].fill(0x6161_6161);
+    for (row, role) in [0u32, 1, 2, 3].into_iter().enumerate() {
+        words[6_912 + row * 6] = 0x0001_0014;
+        words[6_912 + row * 6 + 5] = role << 30;
+    }
+    let tables = Tables::of(&words);
+    let lengths: Vec<usize> = tables.entries().map(|entry| entry.place.name.len()).collect();
+    assert_eq!(lengths, [LONGEST_NAME]);
+    assert_eq!(tables.node(1).map(|node| node.target.len()), Some(LONGEST_TARGET));
+    let roles: Vec<Role> = tables.holds().map(|hold| hold.role).collect();
+    assert_eq!(roles, [Role::Element, Role::End, Role::Element, Role::Element]);
 }

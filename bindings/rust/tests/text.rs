@@ -45,8 +45,12 @@ fn other_lines_are_no_calls() {
     assert_eq!("-1 exec".parse::<Call>(), number("-1"));
     assert_eq!("20".parse::<Call>(), Err(NoCall::Missing("the call")));
     assert_eq!("20 open /a".parse::<Call>(), Err(NoCall::Word("open".to_string())));
-    assert_eq!("20 fork".parse::<Call>(), Err(NoCall::Missing("the user or child")));
-    assert_eq!("20 link /a".parse::<Call>(), Err(NoCall::Missing("a path")));
+    assert_eq!("20 enter".parse::<Call>(), Err(NoCall::Missing("the user")));
+    assert_eq!("20 fork".parse::<Call>(), Err(NoCall::Missing("the child")));
+    assert_eq!("20 check".parse::<Call>(), Err(NoCall::Missing("the path")));
+    assert_eq!("20 symlink /a".parse::<Call>(), Err(NoCall::Missing("the target")));
+    assert_eq!("20 link".parse::<Call>(), Err(NoCall::Missing("the new path")));
+    assert_eq!("20 link /a".parse::<Call>(), Err(NoCall::Missing("the old path")));
     assert_eq!("20 exec /a".parse::<Call>(), Err(NoCall::TooMuch("/a".to_string())));
     for path in [r"/\", r"/\a", r"/\x", r"/\x4", r"/\x4g"] {
         assert_eq!(

@@ -1,11 +1,12 @@
 //! The numbers and short texts of refusals stand in three places, which agree: here, in the header
-//! for C, and on the page for support people.
+//! for C, and on the page for support people. The header also has the sizes.
 
 use std::path::Path;
 
-use tickbutton::archive::GOAL_NUMBERS;
+use tickbutton::archive::{FIELDS, GOAL_NUMBERS};
+use tickbutton::limits;
 use tickbutton::tables::WORDS;
-use tickbutton::{Refusal, LONGEST_RECORD};
+use tickbutton::Refusal;
 
 /// The text of a file of the repository.
 fn file(name: &str) -> String {
@@ -41,10 +42,28 @@ fn the_header_has_every_number_and_text() {
 #[test]
 fn the_header_has_the_sizes() {
     let header = file("include/tickbutton.h");
-    assert!(header.contains(&format!("TICKBUTTON_WORDS = {WORDS}, TICKBUTTON_FIELDS = 6,")));
-    assert!(header.contains(&format!(
-        "TICKBUTTON_GOAL = {GOAL_NUMBERS}, TICKBUTTON_LONGEST_RECORD = {LONGEST_RECORD}"
-    )));
+    let sizes = [
+        ("WORDS", WORDS),
+        ("FIELDS", FIELDS),
+        ("GOAL", GOAL_NUMBERS),
+        ("LONGEST_NAME", limits::LONGEST_NAME),
+        ("LONGEST_TARGET", limits::LONGEST_TARGET),
+        ("LONGEST_PATH", limits::LONGEST_PATH),
+        ("LONGEST_RECORD", limits::LONGEST_RECORD),
+        ("MOST_LINKS", limits::MOST_LINKS),
+        ("STACK", limits::STACK),
+    ];
+    for (name, size) in sizes {
+        let one = format!("    TICKBUTTON_{name} = {size}");
+        let is_there =
+            |line: &str| line.strip_prefix(&one).is_some_and(|rest| !starts_with_digit(rest));
+        assert!(header.lines().any(is_there), "{one}");
+    }
+}
+
+/// Whether a number goes on.
+fn starts_with_digit(text: &str) -> bool {
+    text.starts_with(|letter: char| letter.is_ascii_digit())
 }
 
 #[test]

@@ -89,11 +89,16 @@ fn creation(trace: &mut Trace, names: usize) -> Wish {
     }
 }
 
+/// Whether holds are to be let go of first, since few of their rows are free.
+fn wants_room(trace: &mut Trace) -> bool {
+    free_rows(&trace.tables.holds) < HOLD_ROWS / 16 && trace.random.percent(80)
+}
+
 /// Mode entries: hard links until 512 entries stand, then all calls with links among them.
 pub fn entries(trace: &mut Trace) -> Wish {
     /// How many names each directory has at most.
     const NAMES: usize = 160;
-    if free_rows(&trace.tables.holds) < HOLD_ROWS / 16 && trace.random.percent(80) {
+    if wants_room(trace) {
         return make_room(trace);
     }
     let full = free_rows(&trace.tables.entries) == 0;
@@ -125,7 +130,7 @@ fn link(trace: &mut Trace, names: usize) -> Wish {
 pub fn nodes(trace: &mut Trace) -> Wish {
     /// How many names each directory has at most.
     const NAMES: usize = 100;
-    if free_rows(&trace.tables.holds) < HOLD_ROWS / 16 && trace.random.percent(80) {
+    if wants_room(trace) {
         return make_room(trace);
     }
     let full = free_rows(&trace.tables.nodes) == 0;

@@ -5,8 +5,9 @@ use std::path::Path;
 use std::time::{Duration, Instant};
 
 use reference::{serve, serve_tables, text, Tables};
-use tickbutton::{archive, Answer};
+use tickbutton::archive;
 
+use crate::service::same_answer;
 use crate::tally::Tally;
 
 /// Where a difference is stored, from the folder in which the command is run.
@@ -34,7 +35,7 @@ pub struct Difference {
 
 /// An answer, the bytes taken and the words afterwards.
 struct Told {
-    answer: Answer,
+    answer: String,
     taken: usize,
     words: Vec<u32>,
 }
@@ -55,8 +56,8 @@ impl Side {
     }
 
     /// Serves a record: the answer and the bytes taken.
-    fn serve(&mut self, record: &[u8]) -> (Answer, usize) {
-        let (answer, taken) = match self {
+    fn serve(&mut self, record: &[u8]) -> (reference::Answer, usize) {
+        match self {
             Side::Unsound(words) => serve(words, record),
             Side::Sound(tables, words) => {
                 let (answer, taken) = serve_tables(tables, record);
@@ -65,8 +66,7 @@ impl Side {
                 }
                 (answer, taken)
             }
-        };
-        (in_our_words(answer), taken)
+        }
     }
 
     /// The words now.
@@ -77,16 +77,6 @@ impl Side {
     }
 }
 
-/// The reference's answer as one of the bindings.
-fn in_our_words(answer: reference::Answer) -> Answer {
-    match answer {
-        reference::Answer::Held(number) => Answer::Held(number),
-        reference::Answer::Seen(number) => Answer::Seen(number),
-        reference::Answer::Done(number) => Answer::Done(number),
-        reference::Answer::Refused(number) => Answer::Refused(number),
-    }
-}
-
 /// The first call on which the two part, in the answer, the bytes taken or a word.
 pub fn first(case: &Case, tally: &mut Tally) -> Option<Difference> {
     let mut words = case.words.clone();
@@ -94,10 +84,12 @@ pub fn first(case: &Case, tally: &mut Tally) -> Option<Difference> {
     for (place, record) in case.records.iter().enumerate() {
         let (answer, taken) = archive::serve(&mut words, record);
         let (expected, expected_taken) = side.serve(record);
-        if (answer, taken) != (expected, expected_taken) || words != side.words() {
-            let service = Told { answer, taken, words };
+        let same = same_answer(answer, expected) && taken == expected_taken;
+        if !same || words != side.words() {
+            let service = Told { answer: answer.to_string(), taken, words };
+            let answer = format!("{} {}", expected.word(), expected.number());
             let words = side.words().to_vec();
-            let reference = Told { answer: expected, taken: expected_taken, words };
+            let reference = Told { answer, taken: expected_taken, words };
             return Some(Difference { place, service, reference });
         }
         tally.count(answer);

@@ -1,12 +1,14 @@
 //! The edges of packing that document 01 wants run: the longest path, and one byte more.
 
-use reference::records::pack;
+use tickbutton::limits::{HEAD, LONGEST_PATH};
 use tickbutton::{archive, Answer};
+
+use crate::records::packed_by_reference;
 
 /// Packs a check of each path, compares with the reference and with document 01, and prints it.
 pub fn compare() -> Result<(), String> {
-    one_packing(255, Answer::Done(262))?;
-    one_packing(256, Answer::Refused(3))
+    one_packing(LONGEST_PATH, Answer::Done((HEAD + LONGEST_PATH) as u32))?;
+    one_packing(LONGEST_PATH + 1, Answer::Refused(3))
 }
 
 fn one_packing(length: usize, expected: Answer) -> Result<(), String> {
@@ -14,17 +16,10 @@ fn one_packing(length: usize, expected: Answer) -> Result<(), String> {
     let mut destination = [0xEE; 600];
     let mut reference_destination = destination;
     let answer = archive::pack(5, 20, 0, &path, b"", &mut destination);
-    let by_reference = match pack(5, 20, 0, &path, b"", &mut reference_destination) {
-        Ok(count) => Answer::Done(count as u32),
-        Err(number) => Answer::Refused(number),
-    };
+    let by_reference = packed_by_reference(5, 20, 0, [&path, b""], &mut reference_destination);
     if answer != expected || by_reference != expected || destination != reference_destination {
         return Err(format!("packing a path of {length} bytes: {answer:?}, the reference: {by_reference:?}, document 01: {expected:?}"));
     }
-    let (word, number) = match answer {
-        Answer::Refused(number) => ("refused", number),
-        Answer::Held(number) | Answer::Seen(number) | Answer::Done(number) => ("done", number),
-    };
-    println!("a path of {length} bytes given to packing: {word} {number}");
+    println!("a path of {length} bytes given to packing: {answer}");
     Ok(())
 }

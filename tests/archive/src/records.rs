@@ -2,7 +2,9 @@
 
 use reference::generate::{Mode, Random, Trace};
 use reference::records::{pack, read};
-use tickbutton::{archive, Answer};
+use tickbutton::archive::{self, FIELDS};
+use tickbutton::limits::{HEAD, LONGEST_NAME, LONGEST_PATH};
+use tickbutton::Answer;
 
 use crate::tally::{refusals, Tally};
 
@@ -52,15 +54,15 @@ fn some_bytes(random: &mut Random, trace: &mut Trace) -> Vec<u8> {
 fn one_reading(bytes: &[u8]) -> Result<Answer, String> {
     let (answer, taken, fields) = archive::read(bytes);
     let (expected, expected_taken, expected_fields) = match read(bytes) {
-        Err((number, taken)) => (Answer::Refused(number), taken, [0; 6]),
+        Err((number, taken)) => (Answer::Refused(number), taken, [0; FIELDS]),
         Ok((call, taken)) => {
-            let first = call.path1.len() as u32;
+            let (head, first) = (HEAD as u32, call.path1.len() as u32);
             let numbers = [
                 u32::from(call.process),
                 u32::from(call.argument),
-                7,
+                head,
                 first,
-                7 + first,
+                head + first,
                 call.path2.len() as u32,
             ];
             let number = reference::records::number_of_name(call.name) as u32;
@@ -92,18 +94,29 @@ fn one_packing(random: &mut Random) -> Result<Answer, String> {
     let mut destination: Vec<u8> = (0..size).map(|_| random.below(256) as u8).collect();
     let mut expected_destination = destination.clone();
     let answer = archive::pack(call, process, argument, &path1, &path2, &mut destination);
-    let expected =
-        match pack(u64::from(call), process, argument, &path1, &path2, &mut expected_destination) {
-            Ok(length) => Answer::Done(length as u32),
-            Err(number) => Answer::Refused(number),
-        };
+    let paths: [&[u8]; 2] = [&path1, &path2];
+    let expected = packed_by_reference(call, process, argument, paths, &mut expected_destination);
     if answer == expected && destination == expected_destination {
         return Ok(answer);
     }
     Err(format!("packing {call} {process} {argument} {path1:02x?} {path2:02x?} into {size}: {answer:?}; the reference: {expected:?}"))
 }
 
-/// A path that is mostly valid, sometimes at the limits of 14, 64, 255 and 256 bytes.
+/// What the reference answers to the same packing.
+pub fn packed_by_reference(
+    call: u32,
+    process: u16,
+    argument: u16,
+    [path1, path2]: [&[u8]; 2],
+    destination: &mut [u8],
+) -> Answer {
+    match pack(u64::from(call), process, argument, path1, path2, destination) {
+        Ok(length) => Answer::Done(length as u32),
+        Err(number) => Answer::Refused(number),
+    }
+}
+
+/// A path that is mostly valid, sometimes at the limits or a byte beyond them.
 fn some_path(random: &mut Random, absolute: bool) -> Vec<u8> {
     let mut path = Vec::new();
     let names = if random.percent(20) { random.between(1, 18) } else { random.between(1, 4) };
@@ -111,12 +124,16 @@ fn some_path(random: &mut Random, absolute: bool) -> Vec<u8> {
         if absolute || place > 0 {
             path.push(b'/');
         }
-        let length = if random.percent(10) { random.between(0, 15) } else { random.between(1, 14) };
+        let length = if random.percent(10) {
+            random.between(0, LONGEST_NAME + 1)
+        } else {
+            random.between(1, LONGEST_NAME)
+        };
         path.extend((0..length).map(|_| *random.pick(b"abcdefgh.")));
     }
     match random.below(40) {
         0 => path.push(b'/'),
-        1 => path.resize(256, b'a'),
+        1 => path.resize(LONGEST_PATH + 1, b'a'),
         2 if !path.is_empty() => {
             let place = random.below(path.len());
             path[place] = 0;

@@ -9,13 +9,15 @@ use tickbutton::{archive, Answer};
 use crate::tally::{refusals, Tally};
 
 const LEAST: usize = 100;
+/// How many traces of each mode there are.
+const TRACES: usize = 12;
 
 /// Compares about so many calls: traces of every mode from fresh tables, and single calls on
 /// random tables, sound, broken and damaged.
 pub fn compare(seed: u64, calls: usize) -> Result<(), String> {
     let mut tally = Tally::default();
     fresh_everywhere()?;
-    let traces = 7 * 12;
+    let traces = MODES.len() * TRACES;
     for number in 0..traces {
         let mode = MODES[number % MODES.len()].0;
         one_trace(mode, seed + number as u64, calls * 9 / 10 / traces, &mut tally)?;
@@ -80,25 +82,7 @@ fn one_call(words: &mut Vec<u32>, record: &[u8]) -> Result<Answer, String> {
 
 /// Whether the archive and the reference answered the same.
 pub fn same_answer(answer: Answer, expected: reference::Answer) -> bool {
-    (answer_word(answer), answer_number(answer)) == (expected.word(), expected.number())
-}
-
-fn answer_word(answer: Answer) -> &'static str {
-    match answer {
-        Answer::Held(_) => "held",
-        Answer::Seen(_) => "seen",
-        Answer::Done(_) => "done",
-        Answer::Refused(_) => "refused",
-    }
-}
-
-fn answer_number(answer: Answer) -> u32 {
-    match answer {
-        Answer::Held(number)
-        | Answer::Seen(number)
-        | Answer::Done(number)
-        | Answer::Refused(number) => number,
-    }
+    (answer.word(), answer.number()) == (expected.word(), expected.number())
 }
 
 /// Fresh tables of the right length, and of others, which are refused and left as they were.

@@ -8,8 +8,9 @@ pub fn judge(file: &str) -> Result<(), String> {
     let story = std::fs::read_to_string(file).map_err(|error| format!("{file}: {error}"))?;
     let mut tables = Tables::fresh();
     let mut place = 0;
-    for line in story.lines() {
-        if let Some(record) = text::record(line).map_err(|reason| format!("{file}: {reason}"))? {
+    for (number, line) in (1..).zip(story.lines()) {
+        let record = text::record(line).map_err(|reason| format!("{file}:{number}: {reason}"))?;
+        if let Some(record) = record {
             place += 1;
             let (answer, _) = serve_tables(&mut tables, &record);
             println!("{place} {} {}", answer.word(), answer.number());

@@ -15,10 +15,8 @@ impl Tally {
     /// One more of this answer.
     pub fn count(&mut self, answer: Answer) {
         let name = match answer {
-            Answer::Held(_) => "held".to_string(),
-            Answer::Seen(_) => "seen".to_string(),
-            Answer::Done(_) => "done".to_string(),
-            Answer::Refused(number) => format!("refused {number}"),
+            Answer::Refused(_) => answer.to_string(),
+            _ => answer.word().to_string(),
         };
         *self.counts.entry(name).or_default() += 1;
     }

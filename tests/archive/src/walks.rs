@@ -1,4 +1,5 @@
-//! Walks against the reference: the answer and all numbers of the goal, on tables heavy in links.
+//! Walks against the reference: the answer and all numbers of the goal, and the goal that the bindings
+//! read from them, on tables heavy in links.
 
 use std::collections::BTreeMap;
 
@@ -7,6 +8,7 @@ use reference::paths::valid_path;
 use reference::tables::DirectoryAndName;
 use reference::{sound, walk, Goal, Tables};
 use tickbutton::archive::{self, GOAL_NUMBERS};
+use tickbutton::tables::Place;
 use tickbutton::Answer;
 
 /// How often each outcome comes, at the least.
@@ -80,12 +82,25 @@ fn one_walk(
         let path = String::from_utf8_lossy(path);
         return Err(format!("walking {path}, last {follow_last}: {answer:?} {goal:?}; the reference: {expected:?} {numbers:?}"));
     }
+    if reached.as_ref().is_ok_and(|reached| !is_read_as(&goal, reached)) {
+        return Err(format!("the bindings read {goal:?} otherwise than as {reached:?}"));
+    }
     Ok(match reached {
         Err(number) => format!("refused {number}"),
         Ok(Goal { end: None, elements, .. }) => format!("by / with {} elements", elements.len()),
         Ok(Goal { node: 0, elements, .. }) => format!("absent with {} elements", elements.len()),
         Ok(Goal { elements, .. }) => format!("found with {} elements", elements.len()),
     })
+}
+
+/// Whether the bindings read this goal from the numbers.
+fn is_read_as(numbers: &[u32; GOAL_NUMBERS], goal: &Goal) -> bool {
+    let place =
+        |(directory, name): &DirectoryAndName| Place { directory: *directory, name: name.clone() };
+    let end = goal.end.as_ref().map(place);
+    let elements = goal.elements.iter().map(place).collect();
+    tickbutton::Goal::of_numbers(goal.node, numbers)
+        == tickbutton::Goal { node: goal.node, end, elements }
 }
 
 /// The goal as the archive's numbers.

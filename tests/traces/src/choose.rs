@@ -12,7 +12,6 @@ use crate::claim::{Claim, Over};
 pub fn claims() -> Vec<Claim> {
     let mut all = Vec::new();
     for (mode, _) in MODES {
-        let mode: Mode = mode;
         for seed in 0..4 {
             if let Some(brim) = brim(mode) {
                 if seed < 2 {
@@ -67,7 +66,9 @@ fn at_the_brim(mode: Mode, seed: u64, number: u32) -> Claim {
     let mut trace = Trace::new(mode, seed);
     let mut tables = Tables::fresh();
     let mut place: usize = 0;
-    while serve_tables(&mut tables, &trace.next_record()).0 != Answer::Refused(number) && place < 5_000 {
+    while serve_tables(&mut tables, &trace.next_record()).0 != Answer::Refused(number)
+        && place < 5_000
+    {
         place += 1;
     }
     window(mode, seed, place.saturating_sub(6), 12)
@@ -102,4 +103,3 @@ fn smallest(count: usize, mut next: impl FnMut() -> Vec<u32>) -> Vec<u32> {
     let tables = (0..count).map(|_| next());
     tables.min_by_key(|words| words.iter().filter(|word| **word != 0).count()).unwrap_or_default()
 }
-

@@ -66,10 +66,19 @@ impl Claim {
         )
     }
 
-    /// The records as a story, for a person who looks for the first difference.
-    pub fn story(&self) -> String {
-        let lines = self.records.iter().zip(&self.answers);
-        lines.map(|(record, answer)| format!("{}  # {} {}\n", reference::text::line(record), answer.word(), answer.number())).collect()
+    /// The words that the records start from, as they are stored for a story: four bytes each, the lowest first.
+    pub fn stored_words(&self) -> Vec<u8> {
+        self.start.iter().flat_map(|word| word.to_le_bytes()).collect()
+    }
+
+    /// The records as a story that goes on from the stored words, with the answer behind each, for a person who looks for the first difference.
+    pub fn story(&self, words_file: &str) -> String {
+        let mut story = format!("tables {words_file}\n");
+        for (record, answer) in self.records.iter().zip(&self.answers) {
+            let line = reference::text::line(record);
+            let _ = write!(story, "{line}\n# {} {}\n", answer.word(), answer.number());
+        }
+        story
     }
 }
 

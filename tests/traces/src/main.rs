@@ -6,10 +6,12 @@ mod choose;
 mod claim;
 mod packings;
 
-use std::collections::BTreeMap;
 use std::fs;
 use std::path::Path;
 use std::process::ExitCode;
+
+use claim::Claim;
+use reference::Answer;
 
 const PLAYING: &str = include_str!("playing.txt");
 
@@ -39,35 +41,44 @@ fn write(folder: &Path) -> std::io::Result<bool> {
     fs::write(home.join("src/lib.rt"), "// No code: the claims stand in proofs/.\n")?;
     fs::write(home.join("specs/Lib.antt"), "")?;
     fs::write(home.join("proofs/Playing.antt"), PLAYING)?;
-    let mut modules = String::from("pub mod Playing\n");
-    let mut counts: BTreeMap<String, usize> = BTreeMap::new();
-    let mut calls = 0;
-    for (place, claim) in choose::claims().iter().enumerate() {
+    let (packings, mut counts) = packings::module();
+    fs::write(home.join("proofs/Packings.antt"), packings)?;
+    let claims = choose::claims();
+    let mut modules = String::from("pub mod Playing\npub mod Packings\n");
+    for (place, claim) in claims.iter().enumerate() {
         modules.push_str(&format!("pub mod Trace{place}\n"));
-        fs::write(home.join(format!("proofs/Trace{place}.antt")), claim.module())?;
-        fs::write(folder.join(format!("stories/Trace{place}")), claim.story())?;
-        for answer in claim.answers() {
-            let name = match answer.word() {
-                "refused" => format!("refused {}", answer.number()),
-                word => word.to_string(),
-            };
-            *counts.entry(name).or_default() += 1;
-            calls += 1;
-        }
+        write_claim(folder, place, claim)?;
     }
-    modules.push_str("pub mod Packings\n");
-    let (module, packed) = packings::module();
-    fs::write(home.join("proofs/Packings.antt"), module)?;
     fs::write(home.join("proofs/Lib.antt"), modules)?;
-    for (name, count) in packed {
-        *counts.entry(name).or_default() += count;
+    let answers: Vec<&Answer> = claims.iter().flat_map(Claim::answers).collect();
+    for answer in &answers {
+        *counts.entry(name_of(answer)).or_default() += 1;
     }
+    let calls = answers.len();
     println!("{calls} calls; answers: {counts:?}");
-    let missing: Vec<String> = expected().into_iter().filter(|name| !counts.contains_key(name)).collect();
+    let missing: Vec<String> =
+        expected().into_iter().filter(|name| !counts.contains_key(name)).collect();
     if !missing.is_empty() {
         println!("answers that did not come: {missing:?}");
     }
     Ok(missing.is_empty() && calls >= 400)
+}
+
+/// Writes the claim of a place: its module, and the story with its words.
+fn write_claim(folder: &Path, place: usize, claim: &Claim) -> std::io::Result<()> {
+    let stories = folder.join("stories");
+    let words_file = format!("Trace{place}.words");
+    fs::write(folder.join(format!("crates/traces/proofs/Trace{place}.antt")), claim.module())?;
+    fs::write(stories.join(format!("Trace{place}.story")), claim.story(&words_file))?;
+    fs::write(stories.join(words_file), claim.stored_words())
+}
+
+/// Under which name an answer is counted.
+fn name_of(answer: &Answer) -> String {
+    match answer {
+        Answer::Refused(number) => format!("refused {number}"),
+        _ => answer.word().to_string(),
+    }
 }
 
 fn expected() -> Vec<String> {

@@ -52,7 +52,8 @@ fn one(random: &mut Random, place: usize) -> (String, String) {
 
 /// A path that is mostly valid.
 fn path(random: &mut Random, start: &str) -> Vec<u8> {
-    let names = ["in", "fox", "a", "wolf", "...", "..", "knitted", "abcdefghijklmn", "abcdefghijklmno", ""];
+    let names =
+        ["in", "fox", "a", "wolf", "...", "..", "knitted", "abcdefghijklmn", "abcdefghijklmno", ""];
     let mut text = String::from(start);
     for place in 0..random.between(1, 3) {
         if place > 0 {
