@@ -17,6 +17,7 @@
 #include <stdbool.h>
 #include <stddef.h>
 #include <stdint.h>
+#include <string.h>
 
 #ifdef __cplusplus
 extern "C" {
@@ -112,6 +113,16 @@ enum tickbutton_call {
     TICKBUTTON_UNLINK = 12,  /* the name of a file or link is removed */
     TICKBUTTON_RMDIR = 13    /* an empty directory is removed */
 };
+
+/* Packs a call and serves it over the 8,512 words: the answer of serving, or that of packing where packing refuses. The paths are texts, "" for one that
+ * the call has not. */
+static inline uint64_t tickbutton_ask(uint32_t *words, enum tickbutton_call call, uint16_t process, uint16_t argument, const char *path1,
+                                      const char *path2) {
+    uint8_t record[TICKBUTTON_LONGEST_RECORD];
+    uint64_t packed = tickbutton_pack(call, process, argument, (const uint8_t *)path1, strlen(path1), (const uint8_t *)path2, strlen(path2), record,
+                                      sizeof record);
+    return tickbutton_word(packed) == TICKBUTTON_DONE ? tickbutton_serve(words, TICKBUTTON_WORDS, record, tickbutton_number(packed)) : packed;
+}
 
 /* ---- Why a call was refused; docs/SUPPORT.md says what to do. ---- */
 

@@ -123,8 +123,8 @@ fn create(
     if holds::stopped_at(tables, caller, &end) {
         return Err(HELD_BY_ANOTHER);
     }
-    let entry_row = lowest_free(&tables.entries).ok_or(NO_ENTRY_OR_NODE)?;
-    let node_row = lowest_free(&tables.nodes).ok_or(NO_ENTRY_OR_NODE)?;
+    let entry_row = lowest_free(&tables.entries).ok_or(NO_NAME_ROW)?;
+    let node_row = lowest_free(&tables.nodes).ok_or(NO_NAME_ROW)?;
     let new = holds::needed(tables, caller, &goal)?;
     let node = node_row as u16 + 1;
     tables.nodes[node_row] = Some(Node { kind, entries: 1, target: target.to_vec() });
@@ -154,7 +154,7 @@ fn link(
     if holds::stopped_at(tables, caller, &end) {
         return Err(HELD_BY_ANOTHER);
     }
-    let entry_row = lowest_free(&tables.entries).ok_or(NO_ENTRY_OR_NODE)?;
+    let entry_row = lowest_free(&tables.entries).ok_or(NO_NAME_ROW)?;
     let new = holds::needed(tables, caller, &goal)?;
     holds::drop_all_for_root(tables, caller, &end);
     holds::add(tables, new);

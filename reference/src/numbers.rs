@@ -69,7 +69,7 @@ pub const NOT_EMPTY: u32 = 13;
 /// Reason 14: another user's hold stands against the call.
 pub const HELD_BY_ANOTHER: u32 = 14;
 /// Reason 15: no entry row or no node is free.
-pub const NO_ENTRY_OR_NODE: u32 = 15;
+pub const NO_NAME_ROW: u32 = 15;
 /// Reason 16: too few hold rows are free.
 pub const NO_HOLD_ROW: u32 = 16;
 /// Reason 17: fewer bytes than the record has.

@@ -41,7 +41,7 @@ pub const NOT_EMPTY: u8 = 13;
 
 pub const HELD_BY_ANOTHER: u8 = 14;
 
-pub const NO_ENTRY_OR_NODE: u8 = 15;
+pub const NO_NAME_ROW: u8 = 15;
 
 pub const NO_HOLD_ROW: u8 = 16;
 

@@ -12,7 +12,7 @@ const LEAST: usize = 100;
 /// How many traces of each mode there are.
 const TRACES: usize = 12;
 
-/// Compares about so many calls: traces of every mode from fresh tables, and single calls on
+/// Compares at least so many calls: traces of every mode from fresh tables, and single calls on
 /// random tables, sound, broken and damaged.
 pub fn compare(seed: u64, calls: usize) -> Result<(), String> {
     let mut tally = Tally::default();
@@ -20,11 +20,11 @@ pub fn compare(seed: u64, calls: usize) -> Result<(), String> {
     let traces = MODES.len() * TRACES;
     for number in 0..traces {
         let mode = MODES[number % MODES.len()].0;
-        one_trace(mode, seed + number as u64, calls * 9 / 10 / traces, &mut tally)?;
+        one_trace(mode, seed + number as u64, (calls * 9 / 10).div_ceil(traces), &mut tally)?;
     }
     let mut random = Random::new(seed);
     let mut trace = Trace::new(Mode::Mixed, seed);
-    for _ in 0..calls / 10 {
+    for _ in 0..calls.div_ceil(10) {
         let mut words = some_words(&mut random);
         let record = trace.next_record();
         tally.count(one_call(&mut words, &record)?);

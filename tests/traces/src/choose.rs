@@ -2,7 +2,7 @@
 //! table is full, so that every number comes without a long computation.
 
 use reference::generate::{broken_tables, flip_bits, sound_tables, Mode, Random, Trace, MODES};
-use reference::numbers::{NO_ENTRY_OR_NODE, NO_HOLD_ROW, NO_PROCESS_ROW};
+use reference::numbers::{NO_NAME_ROW, NO_HOLD_ROW, NO_PROCESS_ROW};
 use reference::sound::RULES;
 use reference::{serve_tables, Answer, Rule, Tables};
 
@@ -33,7 +33,7 @@ pub fn claims() -> Vec<Claim> {
 /// The number that tells that a mode's table is full.
 fn brim(mode: Mode) -> Option<u32> {
     match mode {
-        Mode::Entries | Mode::Nodes => Some(NO_ENTRY_OR_NODE),
+        Mode::Entries | Mode::Nodes => Some(NO_NAME_ROW),
         Mode::Processes => Some(NO_PROCESS_ROW),
         Mode::Holds => Some(NO_HOLD_ROW),
         Mode::Mixed | Mode::Links | Mode::Damaged => None,
