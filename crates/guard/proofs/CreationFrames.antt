@@ -1,4 +1,4 @@
--- Calls 8 to 11, create, mkdir, symlink and link, leave what process p pins: a stranger's new entry is not at a pinned place, and the node
+-- Calls 8 to 11, create, mkdir, symlink and link, leave what process p pins: another user's new entry is not at a pinned place, and the node
 -- that it leads to is new, or stays as it was but for its count. Assumes nothing.
 use mathlib.Core.Path.{_≡_, refl, sym, _∙_}
 use mathlib.Core.Bool.{false, not}
@@ -16,10 +16,10 @@ use Rattle.invariants.proofs.Cases.{new-holds, Made, Linked}
 use Rattle.invariants.proofs.Walks.{directory-not-zero}
 use Rattle.guard.proofs.Pins.{Pinned, Alike, Frame}
 use Rattle.guard.proofs.Edits.{mine-add, lookup-put, alike, node-other, node-alike, new-node-free, new-node-not-zero}
-use Rattle.guard.proofs.Strangers.{Beside, overrules-none, way-clear, not-pinned}
+use Rattle.guard.proofs.AnotherUser.{Of-another-user, overrules-none, way-clear, not-pinned}
 use Rattle.guard.proofs.Steady.{Steady, Landed, landed}
 
-module _ (p q : ℕ) (t : Tables) (beside : Beside p q t) where
+module _ (p q : ℕ) (t : Tables) (another : Of-another-user p q t) where
   -- a new entry at a place that is not pinned
   created-frame : (g : Goal) (land : Landed t g) (n : ℕ) (x : Node) (new : List Hold) → (Pinned p t (land .place) → ⊥) →
       ((at : Place) → at .directory ≢ 0 → Pinned p t at →
@@ -30,7 +30,7 @@ module _ (p q : ℕ) (t : Tables) (beside : Beside p q t) where
       record {
         listing = refl;
         user = refl;
-        holds = λ role at used h. rw (overrules-none p q t beside g) (mine-add p new (t .holds) role at used h);
+        holds = λ role at used h. rw (overrules-none p q t another g) (mine-add p new (t .holds) role at used h);
         entry = λ at used pin. rw (land .end) (lookup-put (land .place) at n (t .entries) used (λ e. free (rw e at pin)));
         node = nodes;
       }
@@ -38,7 +38,7 @@ module _ (p q : ℕ) (t : Tables) (beside : Beside p q t) where
   -- the place of an absence that nobody holds is not pinned
   absence-not-pinned : (g : Goal) (land : Landed t g) → g .node ≡ 0 → entry-held t q g ≡ false → Pinned p t (land .place) → ⊥
   absence-not-pinned g land absence way =
-      not-pinned p q t beside g (land .place) (land .used) (land .end) way
+      not-pinned p q t another g (land .place) (land .used) (land .end) way
       (λ d name pin. directory-not-zero (t .nodes) (lookup (t .entries) (land .place)) d (land .there ∙ absence))
 
 -- no entry leads to a free node
@@ -50,9 +50,9 @@ nothing-there : (g : Goal) → not (absent g) ≡ false → g .node ≡ 0
 unfolding absent
 nothing-there g e = eqb-true (g .node) 0 (not-false (absent g) e)
 
-pub make-frame : (p : ℕ) (t : Tables) (r : Call) (c : Change) {kind : ℕ} {target : List ℕ} → Steady t → Beside p (r .process) t →
+pub make-frame : (p : ℕ) (t : Tables) (r : Call) (c : Change) {kind : ℕ} {target : List ℕ} → Steady t → Of-another-user p (r .process) t →
     Made kind target t r c → Frame p t (c .tables)
-make-frame p t r c {kind = kind} {target = target} steady beside e =
+make-frame p t r c {kind = kind} {target = target} steady another e =
     let q = r .process in
     let g = e .goal in
     let n = new-node (t .nodes) in
@@ -60,13 +60,13 @@ make-frame p t r c {kind = kind} {target = target} steady beside e =
     let absence = nothing-there g (e .absence) in
     let land = landed t steady false (r .path1) g (e .walked) (λ end d. directory-not-zero (t .nodes) (g .node) d absence) in
     rw (e .gives .tables)
-    (created-frame p q t beside g land n x (new-holds t q g)
-    (absence-not-pinned p q t beside g land absence (way-clear p q t beside g (e .way)))
+    (created-frame p q t another g land n x (new-holds t q g)
+    (absence-not-pinned p q t another g land absence (way-clear p q t another g (e .way)))
     (λ at used pin. rw (node-other n (lookup (t .entries) at) x (t .nodes) (new-node-other t steady at used)) (alike _)))
 
-pub link-frame : (p : ℕ) (t : Tables) (r : Call) (c : Change) → Steady t → Beside p (r .process) t → Linked t r c → Frame p t (c .tables)
+pub link-frame : (p : ℕ) (t : Tables) (r : Call) (c : Change) → Steady t → Of-another-user p (r .process) t → Linked t r c → Frame p t (c .tables)
 unfolding one-more
-link-frame p t r c steady beside e =
+link-frame p t r c steady another e =
     let q = r .process in
     let g = e .goal in
     let n = e .old .node in
@@ -74,6 +74,6 @@ link-frame p t r c steady beside e =
     let absence = nothing-there g (e .absence) in
     let land = landed t steady false (r .path1) g (e .walked) (λ end d. directory-not-zero (t .nodes) (g .node) d absence) in
     rw (e .gives .tables)
-    (created-frame p q t beside g land n (one-more x) (new-holds t q g)
-    (absence-not-pinned p q t beside g land absence (way-clear p q t beside g (e .way)))
+    (created-frame p q t another g land n (one-more x) (new-holds t q g)
+    (absence-not-pinned p q t another g land absence (way-clear p q t another g (e .way)))
     (λ at used pin. node-alike n (lookup (t .entries) at) (one-more x) (t .nodes) (record { kind = refl; target = refl })))

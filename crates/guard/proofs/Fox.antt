@@ -19,7 +19,7 @@ use Rattle.model.specs.declared.Answer.the-variants.{Held, Done, Refused}
 use Rattle.model.proofs.Stories.{call, enters, checks, creates, uses}
 use Rattle.laws.proofs.Each.{Each, each-weaker, passes-each}
 use Rattle.laws.proofs.Pieces.{Byte}
-use Rattle.guard.proofs.Demand3.{check-call, Asks, By-another-user, its-process, All-by-another-user, Undisturbed}
+use Rattle.guard.proofs.Demand3.{check-call, Asks, By-another-user, its-process, All-by-another-user, others-first, last-first, Undisturbed}
 use Rattle.guard.proofs.Guard.{demand-3}
 
 unfoldable pub before : List (List ℕ)
@@ -28,16 +28,16 @@ before = write (enters 20 500) ∷ write (enters 30 600) ∷ []
 unfoldable pub the-check : List ℕ
 the-check = write (checks 20 "/fox")
 
-unfoldable pub between : List (List ℕ)
-between = write (creates 30 "/fox") ∷ []
+unfoldable pub others : List (List ℕ)
+others = write (creates 30 "/fox") ∷ []
 
 unfoldable pub afterwards : List (List ℕ)
 afterwards = write (creates 20 "/fox") ∷ write (uses 20 "/fox") ∷ []
 
 pub the-guard-bites :
-    answers fresh-words (before ++ (the-check ∷ between) ++ (the-check ∷ afterwards))
+    answers fresh-words (before ++ (the-check ∷ others) ++ (the-check ∷ afterwards))
     ≡ Done 20 ∷ Done 30 ∷ Held 0 ∷ Refused 14 ∷ Held 0 ∷ Done 2 ∷ Held 2 ∷ []
-unfolding computing text call before the-check between afterwards
+unfolding computing text call before the-check others afterwards
 the-guard-bites = refl
 
 -- THE CONDITIONS OF DEMAND 3
@@ -56,27 +56,27 @@ listed-after : unpack (serve (after fresh-words before) the-check .words) .proce
 unfolding computing text call before the-check
 listed-after = refl
 
-stranger-listed : listed now-listed 30 ≡ true
+other-listed : listed now-listed 30 ≡ true
 unfolding computing
-stranger-listed = refl
+other-listed = refl
 
-strangers-user : user-of now-listed 30 ≡ 600
+others-user : user-of now-listed 30 ≡ 600
 unfolding computing
-strangers-user = refl
+others-user = refl
 
-by-stranger : (w s : List ℕ) → unpack w .processes ≡ now-listed → fields s .process ≡ 30 → By-another-user 500 w s
-by-stranger w s now is =
-    its-process (rw (now, is) stranger-listed)
-    (rw (now, is, strangers-user) (record { not-U = omega arith; not-root = omega arith }))
+by-the-other : (w s : List ℕ) → unpack w .processes ≡ now-listed → fields s .process ≡ 30 → By-another-user 500 w s
+by-the-other w s now is =
+    its-process (rw (now, is) other-listed)
+    (rw (now, is, others-user) (record { not-U = omega arith; not-root = omega arith }))
 
-strangers-create : fields (write (creates 30 "/fox")) .process ≡ 30
+others-create : fields (write (creates 30 "/fox")) .process ≡ 30
 unfolding computing text call
-strangers-create = refl
+others-create = refl
 
-all-by-stranger : All-by-another-user 500 (serve (after fresh-words before) the-check .words) between
-unfolding between
-all-by-stranger =
-    (by-stranger (serve (after fresh-words before) the-check .words) (write (creates 30 "/fox")) listed-after strangers-create, tt)
+all-by-the-other : All-by-another-user 500 (serve (after fresh-words before) the-check .words) others
+unfolding others
+all-by-the-other =
+    (by-the-other (serve (after fresh-words before) the-check .words) (write (creates 30 "/fox")) listed-after others-create, tt)
 
 check-read : Asks check-call 20 (text "/fox") the-check
 unfolding computing text call the-check
@@ -98,11 +98,14 @@ check-bytes : Each Byte the-check
 unfolding computing text call the-check
 check-bytes = are-bytes the-check refl
 
-between-bytes : Each (Each Byte) between
-unfolding computing text call between
-between-bytes = are-all-bytes between refl
+others-bytes : Each (Each Byte) others
+unfolding computing text call others
+others-bytes = are-all-bytes others refl
 
-pub fox-undisturbed : Undisturbed (serve (after fresh-words before) the-check .words) between the-check (text "/fox")
+-- the absence that the check was told is what the second check finds, and everything else is as if it had come directly
+pub fox-undisturbed : Undisturbed (text "/fox") (fields the-check .call) 0
+    (others-first (serve (after fresh-words before) the-check .words) others the-check)
+    (last-first (serve (after fresh-words before) the-check .words) others the-check)
 fox-undisturbed =
-    demand-3 before before-bytes 20 500 0 (text "/fox") the-check check-bytes check-read checkers-user check-held between between-bytes
-    all-by-stranger the-check (inl check-read)
+    demand-3 before before-bytes 20 500 0 (text "/fox") the-check check-bytes check-read checkers-user check-held others others-bytes
+    all-by-the-other the-check (inl check-read)

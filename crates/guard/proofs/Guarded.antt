@@ -28,7 +28,7 @@ use Rattle.invariants.proofs.Cases.{new-holds, Saw, seen, held, Looked}
 use Rattle.invariants.proofs.Walks.{directory-not-zero, Stands, Stopped, Arrived}
 use Rattle.guard.proofs.Pins.{Has, Frame, walk-same}
 use Rattle.guard.proofs.Edits.{has-drop}
-use Rattle.guard.proofs.Strangers.{Present}
+use Rattle.guard.proofs.AnotherUser.{Present}
 use Rattle.guard.proofs.Steady.{Steady, arrived, Any-name}
 use Rattle.guard.proofs.Taking.{Of, lacks-none, takes-all}
 
@@ -154,32 +154,39 @@ room-left p t g new room =
     let more = clear-leaves-room free-hold (preempted t p g) no-hold refl (t .holds) in
     omega arith
 
+-- the node that a held check was told is the goal's
+held-node : (a : Answer) (m n : ℕ) → a ≡ Held m → a ≡ Held n → m ≡ n
+held-node a m n e f = cc
+
 -- what was seen was not held
 seen-not-held : (a : Answer) (m n : ℕ) → a ≡ Seen m → a ≡ Held n → ⊥
 seen-not-held a m n e f = let z : _≡_ {A = ℕ} 0 1 = cc in omega arith
 
 saw-guards : (p : ℕ) (path : List ℕ) (t : Tables) (g : Goal) (c : Change) (node : ℕ) → Steady t → Present p t →
     walk (t .entries) (t .nodes) true path ≡ granted g → Saw t p g c → c .answer ≡ Held node →
-    Guarded p (user-of (t .processes) p) path g (c .tables)
+    Guarded p (user-of (t .processes) p) path g (c .tables) × (g .node ≡ node)
 saw-guards p path t g c node steady present walks (seen way gives) answer =
     absurd (seen-not-held (c .answer) (g .node) node (gives .answer) answer)
 saw-guards p path t g c node steady present walks (held way room gives) answer =
-    let ours = wanted-of p t g (arrived t steady true path g walks) in
-    rw (gives .tables)
-    (record {
-      present = record { used = present .used; listing = present .listing };
-      user = refl;
-      walks = walks;
-      ours = ours;
-      holding =
-          takes-all p (t .holds) (drop-holds (preempted t p g) (t .holds)) (own-kept p t g) ours (room-left p t g (new-holds t p g) room);
-    })
+    let ours = wanted-of p t g (arrived t steady true path g walks) in (
+      rw (gives .tables)
+          (record {
+            present = record { used = present .used; listing = present .listing };
+            user = refl;
+            walks = walks;
+            ours = ours;
+            holding =
+                takes-all p (t .holds) (drop-holds (preempted t p g) (t .holds)) (own-kept p t g) ours (room-left p t g (new-holds t p g) room);
+          }),
+      held-node (c .answer) (g .node) node (gives .answer) answer,
+    )
 
 pub check-guards : (t : Tables) (r : Call) (c : Change) (node : ℕ) → Steady t → r .process ≢ 0 → Looked true false t r c →
-    c .answer ≡ Held node → (g : Goal) × Guarded (r .process) (user-of (t .processes) (r .process)) (r .path1) g (c .tables)
+    c .answer ≡ Held node →
+    (g : Goal) × Guarded (r .process) (user-of (t .processes) (r .process)) (r .path1) g (c .tables) × (g .node ≡ node)
 unfolding unlisted
-check-guards t r c node steady used e answer = (
-  e .goal,
-  saw-guards (r .process) (r .path1) t (e .goal) c node steady
-      (record { used = used; listing = not-false (listed (t .processes) (r .process)) (e .caller) }) (e .walked) (e .saw) answer,
-)
+check-guards t r c node steady used e answer =
+    let present : Present (r .process) t =
+    record { used = used; listing = not-false (listed (t .processes) (r .process)) (e .caller) } in
+    let guards = saw-guards (r .process) (r .path1) t (e .goal) c node steady present (e .walked) (e .saw) answer in
+    (e .goal, guards .0, guards .1)

@@ -1,5 +1,5 @@
--- Errors that look right, the fourth: holds are keyed by the bytes of the path, while two paths through different links reach one entry.
--- Assumes nothing.
+-- Errors that look right, the fourth: what is held is the text of a path, though one name in one directory has as many paths as links lead
+-- there. Assumes nothing.
 use mathlib.Core.Path.{_≡_, refl}
 use mathlib.Core.Bool.{true, false}
 use mathlib.Core.List.{List, [], _∷_}

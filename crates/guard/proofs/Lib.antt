@@ -1,7 +1,7 @@
 pub mod Demand3
 pub mod Pins
 pub mod Edits
-pub mod Strangers
+pub mod AnotherUser
 pub mod Steady
 pub mod ProcessFrames
 pub mod LookFrames

@@ -1,4 +1,4 @@
--- Calls 5 to 7, check, look and use, leave what process p pins: a stranger only adds holds of its own. Assumes nothing.
+-- Calls 5 to 7, check, look and use, leave what process p pins: another user only adds holds of its own. Assumes nothing.
 use mathlib.Core.Path.{refl}
 use mathlib.Core.Bool.{Bool}
 use Prim.Native.Nat.{ℕ}
@@ -10,15 +10,15 @@ use Rattle.model.specs.Calls.{Change}
 use Rattle.invariants.proofs.Cases.{new-holds, Saw, seen, held, Looked}
 use Rattle.guard.proofs.Pins.{Frame}
 use Rattle.guard.proofs.Edits.{mine-add}
-use Rattle.guard.proofs.Strangers.{Beside, same-frame, tree-frame, preempts-none}
+use Rattle.guard.proofs.AnotherUser.{Of-another-user, same-frame, tree-frame, preempts-none}
 
-saw-frame : (p q : ℕ) (t : Tables) (g : Goal) (c : Change) → Beside p q t → Saw t q g c → Frame p t (c .tables)
-saw-frame p q t g c beside (seen way gives) = rw (gives .tables) (same-frame p t)
-saw-frame p q t g c beside (held way room gives) =
+saw-frame : (p q : ℕ) (t : Tables) (g : Goal) (c : Change) → Of-another-user p q t → Saw t q g c → Frame p t (c .tables)
+saw-frame p q t g c another (seen way gives) = rw (gives .tables) (same-frame p t)
+saw-frame p q t g c another (held way room gives) =
     let new = new-holds t q g in
-    rw (gives .tables, preempts-none p q t beside g)
+    rw (gives .tables, preempts-none p q t another g)
     (tree-frame p t (add-holds new (t .holds)) (t .processes) refl refl (mine-add p new (t .holds)))
 
-pub look-frame : (p : ℕ) (t : Tables) (r : Call) (c : Change) {last must-exist : Bool} → Beside p (r .process) t →
+pub look-frame : (p : ℕ) (t : Tables) (r : Call) (c : Change) {last must-exist : Bool} → Of-another-user p (r .process) t →
     Looked last must-exist t r c → Frame p t (c .tables)
-look-frame p t r c beside e = saw-frame p (r .process) t (e .goal) c beside (e .saw)
+look-frame p t r c another e = saw-frame p (r .process) t (e .goal) c another (e .saw)

@@ -31,7 +31,7 @@ pub record Alike (x y : Node) : Type 0 where
   pub kind : x .kind ≡ y .kind
   pub target : x .target ≡ y .target
 
--- What a stranger's call leaves of tables t, for process p: u are the tables after it.
+-- What another user's call leaves of tables t, for process p: u are the tables after it.
 pub record Frame (p : ℕ) (t u : Tables) : Type 0 where
   pub listing : listed (u .processes) p ≡ listed (t .processes) p
   pub user : user-of (u .processes) p ≡ user-of (t .processes) p

@@ -13,7 +13,7 @@ use Rattle.laws.proofs.Bools.{clash}
 use Rattle.invariants.proofs.Cases.{Entered, Forked, Execed, Exited}
 use Rattle.guard.proofs.Pins.{Has, Frame}
 use Rattle.guard.proofs.Edits.{mine-add, has-drop, listed-add, user-add, listed-drop, user-drop}
-use Rattle.guard.proofs.Strangers.{Present, Beside, apart, tree-frame}
+use Rattle.guard.proofs.AnotherUser.{Present, Of-another-user, apart, tree-frame}
 
 module _ (p : ℕ) (t : Tables) (r : Call) (c : Change) where
   unlisted-other : (q : ℕ) → Present p t → listed (t .processes) q ≡ false → q ≢ p
@@ -39,22 +39,22 @@ module _ (p : ℕ) (t : Tables) (r : Call) (c : Change) where
       (mine-add p new (t .holds)))
 
   -- the caller drops its own holds
-  keeps-mine : Beside p (r .process) t → (role : ℕ) (q : Place) → q .directory ≢ 0 → Has (t .holds) (hold-by p role q) →
+  keeps-mine : Of-another-user p (r .process) t → (role : ℕ) (q : Place) → q .directory ≢ 0 → Has (t .holds) (hold-by p role q) →
       Has (drop-holds (of-process (r .process)) (t .holds)) (hold-by p role q)
   unfolding of-process hold-by
-  keeps-mine beside role q used h =
+  keeps-mine another role q used h =
       has-drop (hold-by p role q) used (of-process (r .process)) (t .holds)
-      (ne-eqb p (r .process) (λ e. apart p (r .process) t beside (sym e))) h
+      (ne-eqb p (r .process) (λ e. apart p (r .process) t another (sym e))) h
 
-  pub exec-frame : Beside p (r .process) t → Execed t r c → Frame p t (c .tables)
-  exec-frame beside e =
+  pub exec-frame : Of-another-user p (r .process) t → Execed t r c → Frame p t (c .tables)
+  exec-frame another e =
       rw (e .gives .tables)
-      (tree-frame p t (drop-holds (of-process (r .process)) (t .holds)) (t .processes) refl refl (keeps-mine beside))
+      (tree-frame p t (drop-holds (of-process (r .process)) (t .holds)) (t .processes) refl refl (keeps-mine another))
 
-  pub exit-frame : Beside p (r .process) t → Exited t r c → Frame p t (c .tables)
-  exit-frame beside e =
-      let used = beside .present .used in
-      let other = apart p (r .process) t beside in
+  pub exit-frame : Of-another-user p (r .process) t → Exited t r c → Frame p t (c .tables)
+  exit-frame another e =
+      let used = another .present .used in
+      let other = apart p (r .process) t another in
       rw (e .gives .tables)
       (tree-frame p t (drop-holds (of-process (r .process)) (t .holds)) (drop-process (r .process) (t .processes))
-      (listed-drop p (r .process) used other (t .processes)) (user-drop p (r .process) used other (t .processes)) (keeps-mine beside))
+      (listed-drop p (r .process) used other (t .processes)) (user-drop p (r .process) used other (t .processes)) (keeps-mine another))

@@ -1,4 +1,4 @@
--- Calls 12 and 13, unlink and rmdir, leave what process p pins: a stranger removes no pinned entry, and a node that a pinned entry leads to
+-- Calls 12 and 13, unlink and rmdir, leave what process p pins: another user removes no pinned entry, and a node that a pinned entry leads to
 -- has another entry left. Assumes nothing.
 use mathlib.Core.Path.{_≡_, refl, ap, sym, _∙_}
 use mathlib.Core.Bool.{Bool, true, false}
@@ -21,7 +21,7 @@ use Rattle.invariants.proofs.Lookups.{at-place, entry-at}
 use Rattle.invariants.proofs.Walks.{directory-not-zero}
 use Rattle.guard.proofs.Pins.{Has, Pinned, mine, above, Alike, Frame}
 use Rattle.guard.proofs.Edits.{mine-add, has-drop, lookup-clear, alike, node-other, node-alike}
-use Rattle.guard.proofs.Strangers.{Beside, overrules-none, way-clear, directory-way-clear, not-mine-inside, not-pinned}
+use Rattle.guard.proofs.AnotherUser.{Of-another-user, overrules-none, way-clear, directory-way-clear, not-mine-inside, not-pinned}
 use Rattle.guard.proofs.Steady.{Steady, Landed, landed}
 
 -- a node with another entry left stays
@@ -55,8 +55,8 @@ removed-frame p t g holds steady land there free kept =
     other q pin e = free (rw e at pin)
 
     -- two entries lead to the node
-    another : (q : Place) → q .directory ≢ 0 → Pinned p t q → lookup (t .entries) q ≡ g .node → x .count ≢ 1
-    another q used pin e one =
+    more-than-one : (q : Place) → q .directory ≢ 0 → Pinned p t q → lookup (t .entries) q ≡ g .node → x .count ≢ 1
+    more-than-one q used pin e one =
         other q pin
         (steady .single q (land .place) used (land .used) (λ z. there (sym e ∙ z)) (e ∙ sym (land .there)) (rw e one))
 
@@ -64,19 +64,19 @@ removed-frame p t g holds steady land there free kept =
         Alike (node-at (set-node (g .node) (one-less x) (t .nodes)) (lookup (t .entries) q)) (node-at (t .nodes) (lookup (t .entries) q))
     go q used pin true e =
         node-alike (g .node) (lookup (t .entries) q) (one-less x) (t .nodes)
-        (one-less-alike x (another q used pin (eqb-true (lookup (t .entries) q) (g .node) e)))
+        (one-less-alike x (more-than-one q used pin (eqb-true (lookup (t .entries) q) (g .node) e)))
     go q used pin false e =
         rw (node-other (g .node) (lookup (t .entries) q) (one-less x) (t .nodes) (eqb-false (lookup (t .entries) q) (g .node) e)) (alike _)
 
-pub unlink-frame : (p : ℕ) (t : Tables) (r : Call) (c : Change) → Steady t → Beside p (r .process) t → Unlinked t r c →
+pub unlink-frame : (p : ℕ) (t : Tables) (r : Call) (c : Change) → Steady t → Of-another-user p (r .process) t → Unlinked t r c →
     Frame p t (c .tables)
-unlink-frame p t r c steady beside e =
+unlink-frame p t r c steady another e =
     let q = r .process in
     let g = e .goal in
     let land = landed t steady false (r .path1) g (e .walked) (λ end d. clash d (e .no-directory)) in
-    rw (e .gives .tables, overrules-none p q t beside g)
+    rw (e .gives .tables, overrules-none p q t another g)
     (removed-frame p t g (add-holds (new-holds t q g) (t .holds)) steady land (something-there g (e .there))
-    (not-pinned p q t beside g (land .place) (land .used) (land .end) (way-clear p q t beside g (e .way))
+    (not-pinned p q t another g (land .place) (land .used) (land .end) (way-clear p q t another g (e .way))
     (λ d name pin. clash (rw (land .there) at d) (e .no-directory)))
     (mine-add p (new-holds t q g) (t .holds)))
 
@@ -90,38 +90,38 @@ entry-inside entries q there =
     in-any (λ (x : Entry). eqb (x .place .directory) (q .directory)) (e .1 .listed)
     (eq-eqb (e .0 .place .directory) (q .directory) (ap (λ (a : Place). a .directory) (at-place q (e .0) (e .1 .there))))
 
--- nothing is pinned inside an empty directory in which the stranger finds nobody's hold
-inside-not-pinned : (p q d : ℕ) (t : Tables) → Beside p q t → d ≢ 0 → has-entries (t .entries) d ≡ false → inside-held t q d ≡ false →
+-- nothing is pinned inside an empty directory in which another user finds nobody's hold
+inside-not-pinned : (p q d : ℕ) (t : Tables) → Of-another-user p q t → d ≢ 0 → has-entries (t .entries) d ≡ false → inside-held t q d ≡ false →
     (name : Name) → Pinned p t (record { directory = d; name = name }) → ⊥
-inside-not-pinned p q d t beside used empty way name (mine role h) =
-    not-mine-inside p q t beside d (record { directory = d; name = name }) role used refl way h
-inside-not-pinned p q d t beside used empty way name (above below dir pin) =
+inside-not-pinned p q d t another used empty way name (mine role h) =
+    not-mine-inside p q t another d (record { directory = d; name = name }) role used refl way h
+inside-not-pinned p q d t another used empty way name (above below dir pin) =
     let at : Place = record { directory = d; name = name } in
     clash (entry-inside (t .entries) at (directory-not-zero (t .nodes) (lookup (t .entries) at) dir)) empty
 
--- the holds that the stranger drops inside are not p's
-keeps-inside : (p q d : ℕ) (t : Tables) → Beside p q t → inside-held t q d ≡ false → (role : ℕ) (at : Place) → at .directory ≢ 0 →
+-- the holds that another user drops inside are not p's
+keeps-inside : (p q d : ℕ) (t : Tables) → Of-another-user p q t → inside-held t q d ≡ false → (role : ℕ) (at : Place) → at .directory ≢ 0 →
     Has (t .holds) (hold-by p role at) → Has (drop-holds (inside d) (t .holds)) (hold-by p role at)
 unfolding inside hold-by
-keeps-inside p q d t beside way role at used h =
+keeps-inside p q d t another way role at used h =
     has-drop (hold-by p role at) used (inside d) (t .holds)
-    (ne-eqb (at .directory) d (λ e. not-mine-inside p q t beside d at role used e way h)) h
+    (ne-eqb (at .directory) d (λ e. not-mine-inside p q t another d at role used e way h)) h
 
 ends-at-root : (g : Goal) → g .end ≡ none → at-root g ≡ true
 unfolding at-root
 ends-at-root g e = simp (e, at-root)
 
-pub rmdir-frame : (p : ℕ) (t : Tables) (r : Call) (c : Change) → Steady t → Beside p (r .process) t → Rmdired t r c → Frame p t (c .tables)
-rmdir-frame p t r c steady beside e =
+pub rmdir-frame : (p : ℕ) (t : Tables) (r : Call) (c : Change) → Steady t → Of-another-user p (r .process) t → Rmdired t r c → Frame p t (c .tables)
+rmdir-frame p t r c steady another e =
     let q = r .process in
     let g = e .goal in
     let there = something-there g (e .there) in
-    let way = directory-way-clear p q t beside g (e .way) in
+    let way = directory-way-clear p q t another g (e .way) in
     let new = new-holds t q g in
     let land = landed t steady false (r .path1) g (e .walked) (λ end d. clash (ends-at-root g end) (e .not-root)) in
-    rw (e .gives .tables, overrules-none p q t beside g)
+    rw (e .gives .tables, overrules-none p q t another g)
     (removed-frame p t g (add-holds new (drop-holds (inside (g .node)) (t .holds))) steady land there
-    (not-pinned p q t beside g (land .place) (land .used) (land .end) (way .0)
-    (λ d. rw (land .there) (inside-not-pinned p q (g .node) t beside there (e .empty) (way .1))))
+    (not-pinned p q t another g (land .place) (land .used) (land .end) (way .0)
+    (λ d. rw (land .there) (inside-not-pinned p q (g .node) t another there (e .empty) (way .1))))
     (λ role at used h. mine-add p new (drop-holds (inside (g .node)) (t .holds)) role at used
-    (keeps-inside p q (g .node) t beside (way .1) role at used h)))
+    (keeps-inside p q (g .node) t another (way .1) role at used h)))

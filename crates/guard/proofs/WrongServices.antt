@@ -23,7 +23,8 @@ use Rattle.guard.proofs.Told.{Rule, but-for}
 abbrev pub Service : Type 0
 Service = List ℕ → List ℕ → Served
 
--- the promise: for any words and any bytes, the answer, the bytes taken and every word are those of `serve`
+-- the promise: for any words and any bytes, the answer, the bytes taken and every word are those of `serve`. That the code's contract says
+-- the same is `serves-promised` and `promised-serves` (service, Demands).
 abbrev pub Promised : Service → Type 0
 Promised service = (w s : List ℕ) → service w s ≡ serve w s
 

@@ -22,10 +22,12 @@ call-rules =
     ∷ rmdirs 9 "/a/b"
     ∷ [])
     "1 refused 4\n2 refused 4\n3 refused 4\n4 refused 4\n5 refused 4\n6 refused 4\n7 refused 4\n8 refused 4\n9 refused 4\n10 refused 4\n11 refused 4\n12 refused 4\n"
-    -- 5 before 6 before 16: a second enter, a fork of itself, a full table; fork's child has its parent's user
+    -- 4 before 5 before 6 before 16: a caller that is not listed, a second enter, a fork of itself, a full table of processes, then of holds;
+    -- fork's child has its parent's user
     ∷ answers-so (room-for 4 4 3 3)
     (enters 20 500
     ∷ enters 20 0
+    ∷ forks 9 20
     ∷ forks 20 20
     ∷ checks 20 "/a"
     ∷ checks 20 "/b"
@@ -35,14 +37,16 @@ call-rules =
     ∷ forks 20 21
     ∷ enters 30 600
     ∷ enters 40 700
+    ∷ enters 30 700
     ∷ forks 20 21
+    ∷ checks 20 "/c"
     ∷ forks 20 22
     ∷ exits 20
     ∷ creates 30 "/a"
     ∷ creates 21 "/a"
     ∷ enters 40 700
     ∷ [])
-    "1 done 20\n2 refused 5\n3 refused 5\n4 held 0\n5 held 0\n6 refused 16\n7 done 20\n8 held 0\n9 done 21\n10 done 30\n11 refused 6\n12 refused 5\n13 refused 6\n14 done 20\n15 refused 14\n16 done 2\n17 done 40\n"
+    "1 done 20\n2 refused 5\n3 refused 4\n4 refused 5\n5 held 0\n6 held 0\n7 refused 16\n8 done 20\n9 held 0\n10 done 21\n11 done 30\n12 refused 6\n13 refused 5\n14 refused 5\n15 held 0\n16 refused 6\n17 done 20\n18 refused 14\n19 done 2\n20 done 40\n"
     -- each call on `/`
     ∷ answers-so room
     (enters 1 0
@@ -67,15 +71,41 @@ call-rules =
     ∷ links 1 "/file" "/gone"
     ∷ links 1 "/file" "/in"
     ∷ links 1 "/new" "/in"
-    -- 10 and 12 of the others
+    -- 10 and 12 of the others; `/` is refused with 12 before its entries count
     ∷ uses 1 "/gone"
     ∷ unlinks 1 "/gone"
     ∷ rmdirs 1 "/gone"
     ∷ unlinks 1 "/in"
     ∷ rmdirs 1 "/file"
+    ∷ rmdirs 1 "/"
     ∷ creates 1 "/in"
     ∷ [])
-    "1 done 1\n2 done 2\n3 done 3\n4 refused 8\n5 refused 9\n6 refused 10\n7 refused 11\n8 refused 12\n9 refused 10\n10 refused 10\n11 refused 10\n12 refused 12\n13 refused 12\n14 refused 11\n"
+    "1 done 1\n2 done 2\n3 done 3\n4 refused 8\n5 refused 9\n6 refused 10\n7 refused 11\n8 refused 12\n9 refused 10\n10 refused 10\n11 refused 10\n12 refused 12\n13 refused 12\n14 refused 12\n15 refused 11\n"
+    -- 10, 11 and 12 before 14: 500 holds an absence, a file and a directory
+    ∷ answers-so room
+    (enters 20 500
+    ∷ enters 30 600
+    ∷ checks 20 "/gone"
+    ∷ creates 20 "/file"
+    ∷ mkdirs 20 "/in"
+    ∷ unlinks 30 "/gone"
+    ∷ unlinks 30 "/in"
+    ∷ unlinks 30 "/file"
+    ∷ rmdirs 30 "/gone"
+    ∷ rmdirs 30 "/file"
+    ∷ rmdirs 30 "/in"
+    ∷ creates 30 "/file"
+    ∷ links 30 "/gone" "/in"
+    ∷ links 30 "/gone" "/file"
+    ∷ [])
+    "1 done 20\n2 done 30\n3 held 0\n4 done 2\n5 done 3\n6 refused 10\n7 refused 12\n8 refused 14\n9 refused 10\n10 refused 12\n11 refused 14\n12 refused 11\n13 refused 12\n14 refused 14\n"
+    -- 14 before 16 in removal; 14 before 15 before 16 in link
+    ∷ answers-so (room-for 2 2 2 4)
+    (enters 20 500 ∷ enters 30 600 ∷ creates 20 "/file" ∷ mkdirs 20 "/in" ∷ unlinks 30 "/file" ∷ rmdirs 30 "/in" ∷ [])
+    "1 done 20\n2 done 30\n3 done 2\n4 done 3\n5 refused 14\n6 refused 14\n"
+    ∷ answers-so (room-for 1 1 2 4)
+    (enters 20 500 ∷ enters 30 600 ∷ creates 20 "/file" ∷ checks 20 "/gone" ∷ links 30 "/gone" "/file" ∷ links 30 "/new" "/file" ∷ [])
+    "1 done 20\n2 done 30\n3 done 2\n4 held 0\n5 refused 14\n6 refused 15\n"
     -- 14 before 15 before 16: no free entry, no free node, and link needs no node
     ∷ answers-so (room-for 2 1 2 4)
     (enters 20 500

@@ -4,7 +4,7 @@ use Rattle.model.specs.Records.{Call}
 use Rattle.model.proofs.Stories.{enters, execs, checks, looks, uses, creates, mkdirs, symlinks, links}
 use Rattle.model.proofs.Telling.{Example, answers-so, leaves-holds, room}
 
--- a tree of a file `/in/fox` (node 3) in `/in` (node 2), made by root, who keeps no hold
+-- a tree of a file `/in/fox` (node 3) in `/in` (node 2), made by root, who holds both
 unfoldable pub tree : List Call
 tree = enters 1 0 ∷ mkdirs 1 "/in" ∷ creates 1 "/in/fox" ∷ []
 

@@ -9,7 +9,7 @@ use Rattle.model.specs.Refusals.{Outcome, refused, granted, _when_, _>>_
 use Rattle.model.specs.Paths.{valid-path, valid-target}
 use Rattle.model.specs.Words.{bits}
 
--- A call: the fields of its record.
+-- The thirteen calls, a record: its fields.
 pub record Call : Type 0 where
   pub call : ℕ
   pub process : ℕ
@@ -20,10 +20,11 @@ pub record Call : Type 0 where
 
 -- THE TABLE OF CALLS
 
+-- The thirteen calls, the column of classes
 pub data Class : Type 0 where
   process-class check-class use-class creation-class removal-class : Class
 
--- what a path's cell asks for
+-- The thirteen calls, the columns of paths: what a cell asks for
 pub data Wanted : Type 0 where
   blank path target : Wanted
 
@@ -37,6 +38,7 @@ pub record Row : Type 0 where
 abbrev row : Class → Bool → Wanted → Wanted → Row
 row c a p q = record { class = c; argument = a; path1 = p; path2 = q }
 
+-- The thirteen calls, the table
 unfoldable pub calls : List Row
 calls =
     row process-class true blank blank  -- 1 enter: user
@@ -54,20 +56,22 @@ calls =
     ∷ row removal-class false path blank  -- 13 rmdir
     ∷ []
 
--- a call's row; an unknown call's has blanks alone
+-- The thirteen calls: a call's row; an unknown call's has blanks alone
 unfoldable pub row-of : ℕ → Row
 row-of zero = row process-class false blank blank
 row-of (suc n) = getD calls n (row process-class false blank blank)
 
+-- Numbers given back, 2: calls 1 to 13 are known
 unfoldable pub known : ℕ → Bool
 known c = leb 1 c && leb c (length calls)
 
--- a blank path is there all the same; a wanted one is not valid
+-- Numbers given back, 2: a path stands where the table has a blank
 unfoldable pub not-blank : Wanted → List ℕ → Bool
 not-blank blank s = not (empty s)
 not-blank path s = false
 not-blank target s = false
 
+-- Numbers given back, 3: a path that the table asks for breaks the rules for it
 unfoldable pub not-valid : Wanted → List ℕ → Bool
 not-valid blank s = false
 not-valid path s = not (valid-path s)
@@ -86,11 +90,11 @@ fields-broken r =
     || not-blank (row-of (r .call) .path2) (r .path2)
     || not (eqb (r .zeros) 0)
 
--- Numbers given back, 3: path 1, or path 2, not valid
+-- Numbers given back, 3: one of the two paths does
 unfoldable pub paths-broken : Call → Bool
 paths-broken r = not-valid (row-of (r .call) .path1) (r .path1) || not-valid (row-of (r .call) .path2) (r .path2)
 
--- what reading, packing and serving ask of a call's fields
+-- Numbers given back, 2 and then 3: what reading, packing and serving ask of a call's fields
 unfoldable pub well-formed : Call → Outcome Call
 well-formed r = do
   2 when fields-broken r
@@ -116,17 +120,19 @@ fields-from head s =
       zeros = bits 0 3 head;
     }
 
+-- The thirteen calls, a record's first seven bytes as one number
 unfoldable pub head-of : List ℕ → ℕ
 head-of s = number 0 (take 7 s)
 
+-- The thirteen calls: the fields of bytes, whether they are accepted or not
 unfoldable pub fields : List ℕ → Call
 fields s = fields-from (head-of s) (drop 7 s)
 
--- how many bytes the lengths in a record's head ask for
+-- The thirteen calls: how many bytes the lengths in a record's head ask for
 unfoldable pub asked : List ℕ → ℕ
 asked s = 7 + bits 11 8 (head-of s) + bits 3 8 (head-of s)
 
--- Numbers given back, 17: fewer bytes than 7, or than the lengths ask for
+-- Numbers given back, 17: the bytes end before the head does, or before the paths do
 unfoldable pub short : List ℕ → Bool
 short s = elim (ltb (length s) 7) [ true ↦ true | false ↦ ltb (length s) (asked s) ]
 
@@ -134,7 +140,7 @@ short s = elim (ltb (length s) 7) [ true ↦ true | false ↦ ltb (length s) (as
 unfoldable pub taken : List ℕ → ℕ
 taken s = elim (short s) [ true ↦ 0 | false ↦ asked s ]
 
--- reading a record: refused with 17, 2 or 3, or the call
+-- Numbers given back, reading: refused with 17, 2 or 3, or else accepted as the call
 unfoldable pub read : List ℕ → Outcome Call
 read s = do
   17 when short s
@@ -142,6 +148,7 @@ read s = do
 
 -- WRITING
 
+-- The thirteen calls, a record's first seven bytes: the fields side by side in one number, and that number's bytes
 unfoldable pub head : Call → ℕ
 head r =
     r .call * 2 ^ 51 + r .process * 2 ^ 35 + r .argument * 2 ^ 19 + length (r .path1) * 2 ^ 11 + length (r .path2) * 2 ^ 3 + r .zeros
@@ -149,10 +156,11 @@ head r =
 unfoldable pub head-bytes : ℕ → List ℕ
 head-bytes h = bits 48 8 h ∷ bits 40 8 h ∷ bits 32 8 h ∷ bits 24 8 h ∷ bits 16 8 h ∷ bits 8 8 h ∷ bits 0 8 h ∷ []
 
--- the record of a call
+-- The thirteen calls: the record of a call
 unfoldable pub write : Call → List ℕ
 write r = head-bytes (head r) ++ (r .path1 ++ r .path2)
 
+-- Numbers given back, packing: what a success answers
 unfoldable pub record-length : Call → ℕ
 record-length r = 7 + length (r .path1) + length (r .path2)
 

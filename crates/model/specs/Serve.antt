@@ -18,7 +18,7 @@ use Rattle.model.specs.Calls.{Change, step, computing-calls}
 use Rattle.model.specs.declared.Answer.{Answer}
 use Rattle.model.specs.declared.Answer.the-variants.{Refused}
 
--- what serving gives: the answer, the bytes taken, and the words afterwards
+-- Numbers given back: what serving gives, the answer, the bytes taken, and the words afterwards
 pub record Served : Type 0 where
   pub answer : Answer
   pub taken : ℕ
@@ -32,6 +32,7 @@ judged-with w t s = do
   r ← well-formed (fields s)
   step t r
 
+-- Numbers given back, over words
 unfoldable pub judged : List ℕ → List ℕ → Outcome Change
 judged w s = judged-with w (unpack w) s
 
@@ -40,7 +41,7 @@ unfoldable pub served : List ℕ → ℕ → Outcome Change → Served
 served w n (refused k) = record { answer = Refused k; taken = n; words = w }
 served w n (granted c) = record { answer = c .answer; taken = n; words = pack (c .tables) }
 
--- one record (and what stands behind it) served over words
+-- Numbers given back, for one record (and what stands behind it) served over words
 unfoldable pub serve : List ℕ → List ℕ → Served
 serve w s = served w (taken s) (judged w s)
 
@@ -56,7 +57,7 @@ unfoldable pub answers : List ℕ → List (List ℕ) → List Answer
 answers w [] = []
 answers w (s ∷ rest) = let o = serve w s in o .answer ∷ answers (o .words) rest
 
--- the words of fresh tables
+-- The lent tables: the words of fresh ones
 unfoldable pub fresh-words : List ℕ
 fresh-words = pack fresh
 

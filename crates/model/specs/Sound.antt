@@ -8,11 +8,11 @@ use Rattle.model.specs.Paths.{valid-name, valid-target}
 use Rattle.model.specs.Tables.{Entry, Node, Hold, Process, Tables, a-link, a-directory, end-role, element-role, free-entry, free-node, free-hold, free-process, same-place, node-at, is-directory, listed, user-of}
 use Rattle.model.specs.Words.{pack, unpack}
 
--- every row that is not free passes
+-- Sound tables: every row that is not free passes
 unfoldable pub each-used : {A : Type 0} → (A → Bool) → (A → Bool) → List A → Bool
 each-used free f rows = all (λ x. free x || f x) rows
 
--- every used node passes; the test is told its number
+-- Sound tables: every used node passes; the test is told its number
 unfoldable pub each-node : (ℕ → Node → Bool) → List Node → Bool
 each-node f nodes = all-from 1 (λ n x. free-node x || f n x) nodes
 
@@ -49,7 +49,7 @@ count-fits n x = eqb n 1 || elim (eqb (x .kind) a-directory) [ true ↦ eqb (x .
 unfoldable pub counts-fit : Tables → Bool
 counts-fit t = each-node count-fits (t .nodes)
 
--- Sound tables: holds distinct in directory, name, process and role
+-- Sound tables: no process has a hold twice in the same role on the same place
 unfoldable pub same-hold : Hold → Hold → Bool
 same-hold a b = eqb (a .process) (b .process) && eqb (a .role) (b .role) && same-place (a .place) (b .place)
 
@@ -64,7 +64,7 @@ holds-in-directories t = each-used free-hold (λ h. is-directory (t .nodes) (h .
 unfoldable pub holds-of-listed : Tables → Bool
 holds-of-listed t = each-used free-hold (λ h. not (eqb (h .process) 0) && listed (t .processes) (h .process)) (t .holds)
 
--- Sound tables: all end holds on one directory and name are of one user
+-- Sound tables: end holds on one place are of one user, whatever processes have them
 unfoldable pub is-end : Hold → Bool
 is-end h = eqb (h .role) end-role
 
@@ -98,18 +98,19 @@ target-fits x = elim (eqb (x .kind) a-link) [ true ↦ valid-target (x .target) 
 unfoldable pub targets-valid : Tables → Bool
 targets-valid t = each-used free-node target-fits (t .nodes)
 
--- all the rules that speak of rows
+-- Sound tables: all the rules that speak of rows
 unfoldable pub sound-rows : Tables → Bool
 sound-rows t =
     entries-distinct t && entries-in-directories t && entries-lead-to-nodes t && counts-right t && first-node-right t && counts-fit t
     && holds-distinct t && holds-in-directories t && holds-of-listed t && ends-of-one-user t && processes-distinct t && names-valid t
     && roles-valid t && targets-valid t
 
--- The words are just those of the rows that they hold: there are 8,512 of them, and free rows, zero bits and the filling of names and
--- targets are zeros.
+-- Sound tables: the words are just those of the rows that they hold, so that there are 8,512 of them, and free rows, zero bits and the filling
+-- of names and targets are zeros
 unfoldable pub exact : List ℕ → Tables → Bool
 exact w t = same w (pack t)
 
+-- Sound tables: the words and the rows, which are given so that they are unpacked once
 unfoldable pub sound-with : List ℕ → Tables → Bool
 sound-with w t = exact w t && sound-rows t
 

@@ -7,7 +7,7 @@ use lib.ListN.{getD, replicate}
 use Rattle.model.specs.Lists.{same, any, find}
 use Rattle.model.specs.Paths.{Name}
 
--- A directory's node number and a name in it: what an entry is found by, and what a hold stands on.
+-- The lent tables: a directory's node number and a name in it, by which an entry is found and on which a hold stands
 pub record Place : Type 0 where
   pub directory : ℕ
   pub name : Name
@@ -34,13 +34,14 @@ pub record Process : Type 0 where
   pub number : ℕ
   pub user : ℕ
 
+-- The lent tables: the four, in the order of the words
 pub record Tables : Type 0 where
   pub entries : List Entry
   pub nodes : List Node
   pub holds : List Hold
   pub processes : List Process
 
--- the kinds of used nodes, and the roles
+-- The lent tables, nodes and holds: the kinds of used nodes, and the roles
 abbrev pub a-file : ℕ
 a-file = 1
 
@@ -85,7 +86,7 @@ free-hold h = eqb (h .place .directory) 0
 unfoldable pub free-process : Process → Bool
 free-process q = eqb (q .number) 0
 
--- the same directory and name
+-- The lent tables, sound: two places are one where directory and name agree
 unfoldable pub same-place : Place → Place → Bool
 same-place a b = eqb (a .directory) (b .directory) && same (a .name) (b .name)
 
@@ -94,28 +95,32 @@ unfoldable pub node-at : List Node → ℕ → Node
 node-at nodes zero = no-node
 node-at nodes (suc n) = getD nodes n no-node
 
+-- The lent tables: the node's kind is that of a directory
 unfoldable pub is-directory : List Node → ℕ → Bool
 is-directory nodes n = eqb (node-at nodes n .kind) a-directory
 
--- the entry at a place
+-- Walking a path: the entry at a place
 unfoldable pub at : Place → Entry → Bool
 at q e = same-place (e .place) q
 
--- the node that the entry at a place leads to, 0 for an absence
+-- Walking a path: the node that the entry at a place leads to, 0 for an absence
 unfoldable pub lookup : List Entry → Place → ℕ
 lookup entries q = find (at q) no-entry entries .node
 
+-- The lent tables: the row of process p, and whether there is one
 unfoldable pub is-process : ℕ → Process → Bool
 is-process p q = eqb (q .number) p
 
 unfoldable pub listed : List Process → ℕ → Bool
 listed processes p = any (is-process p) processes
 
--- What the service covers: a call's user is the user of its process
+-- What the service covers: who calls is known by the process that calls
 unfoldable pub user-of : List Process → ℕ → ℕ
 user-of processes p = find (is-process p) no-process processes .user
 
--- THE FOUR TABLES: how many rows each has
+-- THE FOUR TABLES
+
+-- The lent tables: how many rows each has
 
 abbrev pub entry-rows : ℕ
 entry-rows = 512

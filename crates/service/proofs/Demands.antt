@@ -5,10 +5,13 @@ use mathlib.Core.Bool.{true}
 use mathlib.Core.Logic.{_≢_, _⊎_}
 use mathlib.Core.List.{List, [], _∷_}
 use Prim.Native.Nat.{ℕ, _+_}
+use native.Mathlib.Omega.{arith}
+use Rattle.model.specs.Refusals.{Outcome, refused, granted}
 use Rattle.model.specs.Tables.{user-of}
 use Rattle.model.specs.Words.{unpack}
+use Rattle.model.specs.Records.{Call, fields, packing, packed}
 use Rattle.model.specs.Sound.{sound}
-use Rattle.model.specs.Serve.{serve, after, answers, fresh-words}
+use Rattle.model.specs.Serve.{Served, serve, after, answers, fresh-words}
 use Rattle.model.specs.declared.Answer.{Answer}
 use Rattle.model.specs.declared.Answer.the-variants.{Held, Refused}
 use Rattle.model.specs.declared.Verdict.{Verdict}
@@ -17,9 +20,16 @@ use Rattle.laws.proofs.Pieces.{Byte}
 use Rattle.invariants.proofs.Accounting.{used-entries, is-creation, is-removal}
 use Rattle.invariants.proofs.Kept as kept
 use Rattle.invariants.proofs.Kept.{accepted-calls}
-use Rattle.guard.proofs.Demand3.{check-call, use-call, Asks, All-by-another-user, leads, Undisturbed}
+use Rattle.records.specs.Packing.{answered, Packs}
+use Rattle.records.specs.declared.Packing.{Packing}
+use Rattle.records.specs.declared.Packing.the-variants as packings
+use Rattle.guard.proofs.Demand3.{check-call, use-call, Asks, All-by-another-user, Order, others-first, last-first, Undisturbed}
 use Rattle.guard.proofs.Guard.{demand-3}
+use Rattle.guard.proofs.WrongServices.{Service, Promised}
 use Rattle.service.specs.Serves.{verdict-of, Serves}
+
+length-not-refused : (m n : ℕ) → _≡_ {A = Packing} (packings.Length m) (packings.Refused n) → ⊥
+length-not-refused m n e = let z : _≡_ {A = ℕ} 0 1 = cc in omega arith
 
 -- ONE RECORD
 
@@ -43,6 +53,32 @@ module _ {w s v : List ℕ} {r : Verdict} (serves : Serves w s r v) where
   pub taken-is : r .taken ≡ serve w s .taken
   unfolding verdict-of
   taken-is = ap (λ (x : Verdict). x .taken) (serves .verdict)
+
+-- Demand 1: a refused packing writes nothing.
+pub refused-pack-writes-nothing : {c : Call} {before after : List ℕ} {r : Packing} {n : ℕ} → Packs c before r after → r ≡ packings.Refused n
+    → after ≡ before
+unfolding answered packed
+refused-pack-writes-nothing {c = c} {before = before} {n = n} packs e = packs .bytes ∙ go (packing c before) (sym (packs .answer) ∙ e)
+  where
+    go : (o : Outcome ℕ) → answered o ≡ packings.Refused n → packed c before o ≡ before
+    go (refused m) f = refl
+    go (granted m) f = absurd (length-not-refused m n f)
+
+-- ANY SERVICE
+
+-- What `serve` promises, for all words and bytes, is the promise that the wrong services break (guard, WrongServices): who meets the one
+-- meets the other.
+pub serves-promised : (service : Service) → ((w s : List ℕ) → Serves w s (verdict-of (service w s)) (service w s .words))
+    → Promised service
+unfolding verdict-of
+serves-promised service serves w s =
+    let verdict = serves w s .verdict in
+    let words = serves w s .words in
+    λ i. record { answer = verdict i .answer; taken = verdict i .taken; words = words i }
+
+pub promised-serves : (service : Service) → Promised service → (w s : List ℕ) → Serves w s (verdict-of (service w s)) (service w s .words)
+promised-serves service promised w s =
+    record { verdict = ap verdict-of (promised w s); words = ap (λ (x : Served). x .words) (promised w s) }
 
 -- RECORDS ONE AFTER THE OTHER
 
@@ -77,42 +113,80 @@ run-accounts {records = records} bytes run = rw (run-words run, run-answers run)
 
 -- DEMAND 3
 
--- the last call behind the others' records, beside the last call before them
-pub record Left-alone (asked u v : List ℕ) (late early : Verdict) (others others-after : List Answer) (x y : List ℕ) : Type 0 where
-  pub path : leads v asked ≡ leads u asked
-  pub last : late .answer ≡ early .answer
-  pub between : others ≡ others-after
-  pub words : x ≡ y
+-- the others' records and then the last call, as the code serves them
+abbrev pub late-order : (found left : List ℕ) → Verdict → List Answer → Order
+late-order found left last-verdict other-answers =
+    record { words-found = found; words-left = left; last-answer = last-verdict .answer; other-answers = other-answers; final-words = left }
 
--- Since fresh tables process p of user U checked a path and was told that it holds it; then other users' records were served, none of them
--- root's; then p checks or uses that path: all is as if it had done so before them.
-pub served-demand-3 : (before : List (List ℕ)) → Each (Each Byte) before → {given : List Answer} {w : List ℕ} → Run fresh-words before given w
-    → (p U node : ℕ) (path first : List ℕ) → Each Byte first → Asks check-call p path first → user-of (unpack w .processes) p ≡ U
-    → {r : Verdict} {u : List ℕ} → Serves w first r u → r .answer ≡ Held node
-    → (between : List (List ℕ)) → Each (Each Byte) between → All-by-another-user U u between
-    → {others : List Answer} {v : List ℕ} → Run u between others v
-    → (last : List ℕ) → Asks check-call p path last ⊎ Asks use-call p path last
-    → {late : Verdict} {x : List ℕ} → Serves v last late x
-    → {early : Verdict} {z : List ℕ} → Serves u last early z
-    → {others-after : List Answer} {y : List ℕ} → Run z between others-after y
-    → Left-alone path u v late early others others-after x y
-served-demand-3 before before-bytes {w = w} start p U node path first first-bytes asks user {r = r} {u = u} checked told between
-    between-bytes by {others = others} {v = v} strangers last asks-again {late = late} {x = x} behind {early = early} {z = z} direct {others-after = others-after} {y = y} strangers-after =
-    let w-is : w ≡ after fresh-words before = run-words start in
-    let u-is : u ≡ serve (after fresh-words before) first .words = checked .words ∙ ap (λ (l : List ℕ). serve l first .words) w-is in
-    let user-is : user-of (unpack (after fresh-words before) .processes) p ≡ U = rw w-is at user in
-    let told-is : serve (after fresh-words before) first .answer ≡ Held node
-    = sym (ap (λ (l : List ℕ). serve l first .answer) w-is) ∙ sym (answer-is checked) ∙ told in
-    let by-is = subst (λ (l : List ℕ). All-by-another-user U l between) u-is by in
-    let model = demand-3 before before-bytes p U node path first first-bytes asks user-is told-is between between-bytes by-is last asks-again in
-    let alone : Undisturbed u between last path = subst (λ (l : List ℕ). Undisturbed l between last path) (sym u-is) model in
-    let v-is : v ≡ after u between = run-words strangers in
-    let z-is : z ≡ serve u last .words = direct .words in
-    record {
-      path = ap (λ (l : List ℕ). leads l path) v-is ∙ alone .path;
-      last = answer-is behind ∙ ap (λ (l : List ℕ). serve l last .answer) v-is ∙ alone .last ∙ sym (answer-is direct);
-      between = run-answers strangers ∙ alone .between ∙ sym (run-answers strangers-after ∙ ap (λ (l : List ℕ). answers l between) z-is);
-      words =
-          behind .words ∙ ap (λ (l : List ℕ). serve l last .words) v-is ∙ alone .words
-          ∙ sym (run-words strangers-after ∙ ap (λ (l : List ℕ). after l between) z-is);
+-- the last call directly, and then the others' records
+abbrev pub direct-order : (found left : List ℕ) → Verdict → List Answer → List ℕ → Order
+direct-order found left last-verdict other-answers final =
+    record { words-found = found; words-left = left; last-answer = last-verdict .answer; other-answers = other-answers; final-words = final }
+
+late-is : {checked found left last : List ℕ} {others : List (List ℕ)} {other-answers : List Answer} {last-verdict : Verdict}
+    → Run checked others other-answers found → Serves found last last-verdict left
+    → late-order found left last-verdict other-answers ≡ others-first checked others last
+late-is {last = last} run serves =
+    let found-is = run-words run in
+    let left-is = serves .words ∙ ap (λ (w : List ℕ). serve w last .words) found-is in
+    let answer-so = answer-is serves ∙ ap (λ (w : List ℕ). serve w last .answer) found-is in
+    let others-so = run-answers run in
+    λ i. record {
+      words-found = found-is i;
+      words-left = left-is i;
+      last-answer = answer-so i;
+      other-answers = others-so i;
+      final-words = left-is i;
     }
+
+direct-is : {checked left final last : List ℕ} {others : List (List ℕ)} {other-answers : List Answer} {last-verdict : Verdict}
+    → Serves checked last last-verdict left → Run left others other-answers final
+    → direct-order checked left last-verdict other-answers final ≡ last-first checked others last
+direct-is {checked = checked} {others = others} serves run =
+    let left-is = serves .words in
+    let answer-so = answer-is serves in
+    let others-so = run-answers run ∙ ap (λ (w : List ℕ). answers w others) left-is in
+    let final-is = run-words run ∙ ap (λ (w : List ℕ). after w others) left-is in
+    λ i. record {
+      words-found = checked;
+      words-left = left-is i;
+      last-answer = answer-so i;
+      other-answers = others-so i;
+      final-words = final-is i;
+    }
+
+same-orders : {path : List ℕ} {call node : ℕ} {late direct model-late model-direct : Order} → late ≡ model-late → direct ≡ model-direct
+    → Undisturbed path call node model-late model-direct → Undisturbed path call node late direct
+same-orders late-so direct-so undisturbed = rw (late-so, direct-so) undisturbed
+
+-- Since fresh tables process p of user U checked a path and was told that it holds it, with a node or an absence; then other users' records
+-- were served, none of them root's; then p checks or uses that path: it finds what it was told, and all is as if it had done so before them.
+pub served-demand-3 : (before : List (List ℕ)) → Each (Each Byte) before → {given : List Answer} {start : List ℕ}
+    → Run fresh-words before given start
+    → (p U node : ℕ) (path first : List ℕ) → Each Byte first → Asks check-call p path first → user-of (unpack start .processes) p ≡ U
+    → {first-verdict : Verdict} {checked : List ℕ} → Serves start first first-verdict checked → first-verdict .answer ≡ Held node
+    → (others : List (List ℕ)) → Each (Each Byte) others → All-by-another-user U checked others
+    → (last : List ℕ) → Asks check-call p path last ⊎ Asks use-call p path last
+    -- the others first
+    → {late-answers : List Answer} {late-found : List ℕ} → Run checked others late-answers late-found
+    → {late-verdict : Verdict} {late-left : List ℕ} → Serves late-found last late-verdict late-left
+    -- the last call first
+    → {direct-verdict : Verdict} {direct-left : List ℕ} → Serves checked last direct-verdict direct-left
+    → {direct-answers : List Answer} {direct-final : List ℕ} → Run direct-left others direct-answers direct-final
+    → Undisturbed path (fields last .call) node
+    (late-order late-found late-left late-verdict late-answers)
+    (direct-order checked direct-left direct-verdict direct-answers direct-final)
+served-demand-3 before before-bytes {start = start} run-before p U node path first first-bytes asks user {checked = checked} first-serves told
+    others others-bytes by last asks-again run-late last-late last-direct run-direct =
+    let start-is : start ≡ after fresh-words before = run-words run-before in
+    let checked-is : checked ≡ serve (after fresh-words before) first .words
+    = first-serves .words ∙ ap (λ (w : List ℕ). serve w first .words) start-is in
+    let user-is : user-of (unpack (after fresh-words before) .processes) p ≡ U = rw start-is at user in
+    let told-is : serve (after fresh-words before) first .answer ≡ Held node
+    = sym (ap (λ (w : List ℕ). serve w first .answer) start-is) ∙ sym (answer-is first-serves) ∙ told in
+    let by-is = subst (λ (w : List ℕ). All-by-another-user U w others) checked-is by in
+    let model = demand-3 before before-bytes p U node path first first-bytes asks user-is told-is others others-bytes by-is last asks-again in
+    let from-checked =
+    subst (λ (w : List ℕ). Undisturbed path (fields last .call) node (others-first w others last) (last-first w others last))
+    (sym checked-is) model in
+    same-orders (late-is run-late last-late) (direct-is last-direct run-direct) from-checked

@@ -1,4 +1,4 @@
--- A stranger beside process p: what p holds is in the stranger's way, and the stranger drops none of it. Assumes nothing.
+-- Another user than process p's, not root: what p holds is in that user's way, and that user drops none of it. Assumes nothing.
 use mathlib.Core.Path.{_≡_, refl, ap, sym}
 use mathlib.Core.Bool.{Bool, true, false, _&&_, _||_, true≢false}
 use mathlib.Core.Logic.{_≢_}
@@ -13,6 +13,7 @@ use Rattle.model.specs.Walk.{Goal}
 use Rattle.model.specs.Calls.{with-holds-and-processes, blocked, directory-blocked, after-overruling}
 use Rattle.laws.proofs.Bools.{both, clash}
 use Rattle.laws.proofs.Places.{same-place-self}
+use Rattle.guard.proofs.Demand3.{Another-user}
 use Rattle.guard.proofs.Pins.{Has, Pinned, mine, above, Frame}
 use Rattle.guard.proofs.Edits.{has-shows, drops-none, alike}
 
@@ -21,11 +22,10 @@ pub record Present (p : ℕ) (t : Tables) : Type 0 where
   pub used : p ≢ 0
   pub listing : listed (t .processes) p ≡ true
 
--- process q has another user than p, and is not root
-pub record Beside (p q : ℕ) (t : Tables) : Type 0 where
+-- process q is of another user than p, and not root's
+pub record Of-another-user (p q : ℕ) (t : Tables) : Type 0 where
   pub present : Present p t
-  pub differ : user-of (t .processes) q ≢ user-of (t .processes) p
-  pub no-root : user-of (t .processes) q ≢ 0
+  pub user : Another-user (user-of (t .processes) p) (user-of (t .processes) q)
 
 -- FRAMES OF PART OF THE TABLES
 
@@ -47,23 +47,23 @@ pub tree-frame : (p : ℕ) (t : Tables) (holds : List Hold) (processes : List Pr
 tree-frame p t holds processes listing user kept =
     record { listing = listing; user = user; holds = kept; entry = λ q used pin. refl; node = λ q used pin. alike _ }
 
-module _ (p q : ℕ) (t : Tables) (beside : Beside p q t) where
+module _ (p q : ℕ) (t : Tables) (another : Of-another-user p q t) where
   pub apart : q ≢ p
-  apart e = beside .differ (ap (user-of (t .processes)) e)
+  apart e = another .user .not-U (ap (user-of (t .processes)) e)
 
-  not-root : root t q ≡ false
+  no-root : root t q ≡ false
   unfolding root
-  not-root = ne-eqb (user-of (t .processes) q) 0 (beside .no-root)
+  no-root = ne-eqb (user-of (t .processes) q) 0 (another .user .not-root)
 
-  -- THE STRANGER DROPS NOTHING
+  -- THE OTHER USER DROPS NOTHING
 
   pub preempts-none : (g : Goal) → drop-holds (preempted t q g) (t .holds) ≡ t .holds
   unfolding preempted
-  preempts-none g = drops-none (preempted t q g) (t .holds) (λ h. simp not-root)
+  preempts-none g = drops-none (preempted t q g) (t .holds) (λ h. simp no-root)
 
   pub overrules-none : (g : Goal) → after-overruling t q g ≡ t .holds
   unfolding after-overruling overruled
-  overrules-none g = drops-none (overruled t q g) (t .holds) (λ h. simp not-root)
+  overrules-none g = drops-none (overruled t q g) (t .holds) (λ h. simp no-root)
 
   -- AND p'S HOLDS ARE IN THE WAY
 
@@ -72,12 +72,12 @@ module _ (p q : ℕ) (t : Tables) (beside : Beside p q t) where
   foreign-mine role at used =
       rw (
         ne-eqb (at .directory) 0 used,
-        ne-eqb (user-of (t .processes) p) (user-of (t .processes) q) (λ e. beside .differ (sym e)),
+        ne-eqb (user-of (t .processes) p) (user-of (t .processes) q) (λ e. another .user .not-U (sym e)),
       )
 
   pub way-clear : (g : Goal) → blocked t q g ≡ false → entry-held t q g ≡ false
   unfolding blocked
-  way-clear g e = go (entry-held t q g) (rw not-root at e)
+  way-clear g e = go (entry-held t q g) (rw no-root at e)
     where
       go : (b : Bool) → (b && true) ≡ false → b ≡ false
       go true f = f
@@ -85,7 +85,7 @@ module _ (p q : ℕ) (t : Tables) (beside : Beside p q t) where
 
   pub directory-way-clear : (g : Goal) → directory-blocked t q g ≡ false → (entry-held t q g ≡ false) × (inside-held t q (g .node) ≡ false)
   unfolding directory-blocked
-  directory-way-clear g e = go (entry-held t q g) (inside-held t q (g .node)) (rw not-root at e)
+  directory-way-clear g e = go (entry-held t q g) (inside-held t q (g .node)) (rw no-root at e)
     where
       go : (b c : Bool) → ((b || c) && true) ≡ false → (b ≡ false) × (c ≡ false)
       go true c f = absurd (true≢false f)
