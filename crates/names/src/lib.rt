@@ -7,9 +7,9 @@ ghost use Rattle.names.specs.Fits.{fits, good-name, number, tops, differ
 use rows::Block;
 
 // A dot alone, and two, as the first word of a block.
-const ONE_DOT: u32 = 19791872;
+const ONE_DOT: u32 = 0x012e0000;
 
-const TWO_DOTS: u32 = 36580864;
+const TWO_DOTS: u32 = 0x022e2e00;
 
 // Of eight bytes the lower seven bits each, and the top bits; and eight slashes.
 const LOW_BITS: u64 = 0x7f7f7f7f7f7f7f7f;

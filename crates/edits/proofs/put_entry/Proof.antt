@@ -59,7 +59,7 @@ same-length : tie.Need-same-length
 same-length c = search needs
 
 returns : tie.Need-returns
-returns c = entry-stored (c .before .before .before .args .entries .now) (c .before .before .before .args .row * 5) (c .before .before .before .args .e) (c .pair-of .ensures)
+returns c = entry-stored (c .before .before .before .args .entries .now) (c .before .before .before .args .row * 5) (c .before .before .before .args .entry) (c .pair-of .ensures)
 
 pub put-entry-spec : {M : Type 1} → statement M
 put-entry-spec =

@@ -71,7 +71,7 @@ same-length : tie.Need-same-length
 same-length c = search needs
 
 returns : tie.Need-returns
-returns c = hold-stored (c .before .before .before .before .args .holds .now) (c .before .before .before .before .args .row * 6) (c .before .before .before .before .args .h) (c .before .pair-of .ensures) (c .role-word .ensures)
+returns c = hold-stored (c .before .before .before .before .args .holds .now) (c .before .before .before .before .args .row * 6) (c .before .before .before .before .args .hold) (c .before .pair-of .ensures) (c .role-word .ensures)
 
 pub put-hold-spec : {M : Type 1} → statement M
 put-hold-spec =

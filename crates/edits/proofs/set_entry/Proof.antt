@@ -20,7 +20,7 @@ same-length : tie.Need-same-length
 same-length c = search needs
 
 returns : tie.Need-returns
-returns c = set-entry-is (c .before .before .before .before .before .pre .0) (c .before .before .before .before .before .args .row) (c .before .before .before .before .before .pre .1 .0) (c .before .before .before .before .before .args .e) (c .before .before .before .before .before .pre .1 .1) (c .before .before .put-entry .ensures)
+returns c = set-entry-is (c .before .before .before .before .before .pre .0) (c .before .before .before .before .before .args .row) (c .before .before .before .before .before .pre .1 .0) (c .before .before .before .before .before .args .entry) (c .before .before .before .before .before .pre .1 .1) (c .before .before .put-entry .ensures)
 
 pub set-entry-spec : {M : Type 1} → statement M
 set-entry-spec =
