@@ -21,6 +21,7 @@ use rows::NODE_ROWS;
 use rows::NODE_WIDTH;
 use rows::NODES_START;
 use rows::PROCESSES_START;
+use rows::TARGET_WORDS;
 use rows::TOP_UNIT;
 use rows::UPPER_UNIT;
 use rows::WORD_COUNT;
@@ -89,7 +90,7 @@ fn put_target(nodes: &mut [u32], at: usize, target: &[u8])
     ensures { λ _. ⌜ now (nodes .exit) ≡ sets (now (nodes .entry)) at (words (filled 64 (now (target .entry)))) ⌝ }
 {
     let mut k = 0;
-    while k < 16 {
+    while k < TARGET_WORDS {
         nodes[at + k] = four_bytes(target, 0, target.len(), k * 4);
         k += 1;
     }

@@ -4,6 +4,7 @@ ghost use mathlib.Core.List.{[], _∷_};
 ghost use Prim.Native.Nat.{_<_};
 ghost use Rattle.model.specs.Words.{bytes};
 ghost use Rattle.names.specs.Fits.{fits, good-name, number, tops, differing};
+use paths::LONGEST_NAME;
 use rows::Block;
 
 // A dot alone, and two, as the first word of a block.
@@ -26,7 +27,7 @@ pub fn is_good_name(name: Block) -> bool
     if length == 0 {
         return false;
     }
-    if length > 14 {
+    if length > LONGEST_NAME {
         return false;
     }
     if name.first == ONE_DOT {

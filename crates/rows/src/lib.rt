@@ -23,6 +23,11 @@ pub const NODE_WIDTH: usize = 17;
 
 pub const HOLD_WIDTH: usize = 6;
 
+// The room for a link's target behind the first word of a node, in words and in bytes.
+pub const TARGET_WORDS: usize = 16;
+
+pub const TARGET_BYTES: usize = 64;
+
 // How many rows each table has.
 pub const ENTRY_ROWS: usize = 512;
 
@@ -82,7 +87,7 @@ pub struct HoldRow {
 // A link's target: its bytes, filled up with zeros, and how many they are.
 pub struct Target {
     pub length: usize,
-    pub bytes: [u8; 64],
+    pub bytes: [u8; TARGET_BYTES],
 }
 
 fn upper_half(word: u32) -> u16
@@ -250,13 +255,13 @@ fn byte_of(word: u32, place: u32) -> u8
 }
 
 // The bytes of the 16 words from `at` on.
-pub fn bytes_at(words: &[u32], at: usize) -> [u8; 64]
+pub fn bytes_at(words: &[u32], at: usize) -> [u8; TARGET_BYTES]
     requires { ⌜ at + 16 ≤ length (now words) ⌝ }
     ensures { λ r. ⌜ r ≡ bytes (take 16 (drop at (now (words .entry)))) ⌝ }
 {
-    let mut out = [0u8; 64];
+    let mut out = [0u8; TARGET_BYTES];
     let mut k = 0;
-    while k < 16 {
+    while k < TARGET_WORDS {
         let word = words[at + k];
         out[k * 4] = byte_of(word, 16777216);
         out[k * 4 + 1] = byte_of(word, 65536);
