@@ -28,10 +28,10 @@ use rows::WORD_COUNT;
 use rows::count_in;
 use rows::four_bytes;
 
-fn pair_of(a: u16, b: u16) -> u32
-    ensures { λ r. ⌜ r ≡ a * 65536 + b ⌝ }
+fn pair_of(upper: u16, lower: u16) -> u32
+    ensures { λ r. ⌜ r ≡ upper * 65536 + lower ⌝ }
 {
-    a as u32 * UPPER_UNIT + b as u32
+    upper as u32 * UPPER_UNIT + lower as u32
 }
 
 // Zeros from `at` on.

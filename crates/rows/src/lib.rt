@@ -141,10 +141,10 @@ pub fn block_at(words: &[u32], at: usize) -> Block
     }
 }
 
-fn join_bytes(a: u8, b: u8, c: u8, d: u8) -> u32
-    ensures { λ r. ⌜ r ≡ ((a * 256 + b) * 256 + c) * 256 + d ⌝ }
+fn join_bytes(first: u8, second: u8, third: u8, fourth: u8) -> u32
+    ensures { λ r. ⌜ r ≡ ((first * 256 + second) * 256 + third) * 256 + fourth ⌝ }
 {
-    a as u32 * 16777216 + b as u32 * 65536 + c as u32 * 256 + d as u32
+    first as u32 * 16777216 + second as u32 * 65536 + third as u32 * 256 + fourth as u32
 }
 
 // Byte k of the `count` bytes from `from` on, 0 behind them.

@@ -35,14 +35,14 @@ fn find_process(words: &[u32], process: u16) -> usize
     requires { ⌜ Stands (now words) ⌝ }
     ensures { λ r. ⌜ r ≡ first (is-process process) 0 (unpack (now (words .entry)) .processes) ⌝ }
 {
-    let mut i = 0;
-    while i < PROCESS_ROWS {
-        if process_number(words, i) == process {
-            return i;
+    let mut row = 0;
+    while row < PROCESS_ROWS {
+        if process_number(words, row) == process {
+            return row;
         }
-        i += 1;
+        row += 1;
     }
-    i
+    row
 }
 
 pub fn is_listed(words: &[u32], process: u16) -> bool
@@ -156,54 +156,54 @@ pub fn free_entry_row(words: &[u32]) -> usize
     requires { ⌜ Stands (now words) ⌝ }
     ensures { λ r. ⌜ r ≡ first free-entry 0 (unpack (now (words .entry)) .entries) ⌝ }
 {
-    let mut i = 0;
-    while i < ENTRY_ROWS {
-        if entry_directory(words, i) == 0 {
-            return i;
+    let mut row = 0;
+    while row < ENTRY_ROWS {
+        if entry_directory(words, row) == 0 {
+            return row;
         }
-        i += 1;
+        row += 1;
     }
-    i
+    row
 }
 
 pub fn free_node_row(words: &[u32]) -> usize
     requires { ⌜ Stands (now words) ⌝ }
     ensures { λ r. ⌜ r ≡ first free-node 0 (unpack (now (words .entry)) .nodes) ⌝ }
 {
-    let mut i = 0;
-    while i < NODE_ROWS {
-        if kind_in(words, i) == 0 {
-            return i;
+    let mut row = 0;
+    while row < NODE_ROWS {
+        if kind_in(words, row) == 0 {
+            return row;
         }
-        i += 1;
+        row += 1;
     }
-    i
+    row
 }
 
 pub fn free_hold_row(words: &[u32]) -> usize
     requires { ⌜ Stands (now words) ⌝ }
     ensures { λ r. ⌜ r ≡ first free-hold 0 (unpack (now (words .entry)) .holds) ⌝ }
 {
-    let mut i = 0;
-    while i < HOLD_ROWS {
-        if hold_directory(words, i) == 0 {
-            return i;
+    let mut row = 0;
+    while row < HOLD_ROWS {
+        if hold_directory(words, row) == 0 {
+            return row;
         }
-        i += 1;
+        row += 1;
     }
-    i
+    row
 }
 
 pub fn free_process_row(words: &[u32]) -> usize
     requires { ⌜ Stands (now words) ⌝ }
     ensures { λ r. ⌜ r ≡ first free-process 0 (unpack (now (words .entry)) .processes) ⌝ }
 {
-    let mut i = 0;
-    while i < PROCESS_ROWS {
-        if process_number(words, i) == 0 {
-            return i;
+    let mut row = 0;
+    while row < PROCESS_ROWS {
+        if process_number(words, row) == 0 {
+            return row;
         }
-        i += 1;
+        row += 1;
     }
-    i
+    row
 }
