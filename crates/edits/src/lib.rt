@@ -7,9 +7,10 @@ ghost use Rattle.model.specs.Lists.{filled};
 ghost use Rattle.model.specs.Tables.{no-entry, no-node, no-hold, no-process, node-at};
 ghost use Rattle.model.specs.Calls.{set-node, one-more, one-less};
 ghost use Rattle.model.specs.Words.{words, unpack};
-ghost use Rattle.rows.specs.Rows.{entry-of, hold-of, entry-words, hold-words, Good-entry, Good-hold};
+ghost use Rattle.rows.specs.Rows.{entry-of, hold-of, named-words, hold-words, Good-entry, Good-hold};
 ghost use Rattle.rows.specs.Stands.{Stands, Becomes, with-entries, with-nodes, with-holds, with-processes, node-row};
 ghost use Rattle.edits.specs.Nodes.{node-words, with-count};
+use rows::Block;
 use rows::COUNT_UNIT;
 use rows::ENTRY_WIDTH;
 use rows::EntryRow;
@@ -46,26 +47,32 @@ fn put_zeros(part: &mut [u32], at: usize, count: usize)
     }
 }
 
-// ENTRIES
-
-fn put_entry(entries: &mut [u32], row: usize, entry: EntryRow)
-    requires { ⌜ (length (now entries) ≡ 2560) × (row < 512) ⌝ }
-    ensures { λ _. ⌜ now (entries .exit) ≡ sets (now (entries .entry)) (row * 5) (entry-words entry) ⌝ }
+// What an entry and a hold begin with: two numbers in one word, and a name.
+fn put_named(part: &mut [u32], at: usize, upper: u16, lower: u16, name: Block)
+    requires { ⌜ at + 5 ≤ length (now part) ⌝ }
+    ensures { λ _. ⌜ now (part .exit) ≡ sets (now (part .entry)) at (named-words upper lower name) ⌝ }
 {
-    let at = row * ENTRY_WIDTH;
-    let name = entry.name;
-    entries[at] = pair_of(entry.directory, entry.node);
-    entries[at + 1] = name.first;
-    entries[at + 2] = name.second;
-    entries[at + 3] = name.third;
-    entries[at + 4] = name.fourth;
+    part[at] = pair_of(upper, lower);
+    part[at + 1] = name.first;
+    part[at + 2] = name.second;
+    part[at + 3] = name.third;
+    part[at + 4] = name.fourth;
 }
+
+// ENTRIES
 
 pub fn set_entry(words: &mut [u32], row: usize, entry: EntryRow)
     requires { ⌜ (Stands (now words)) × ((row < 512) × (Good-entry entry)) ⌝ }
     ensures { λ _. ⌜ Becomes (now (words .exit)) (with-entries (unpack (now (words .entry))) (set (unpack (now (words .entry)) .entries) row (entry-of entry))) ⌝ }
 {
-    put_entry(&mut words[0..NODES_START], row, entry);
+    let name = entry.name;
+    put_named(
+        &mut words[0..NODES_START],
+        row * ENTRY_WIDTH,
+        entry.directory,
+        entry.node,
+        name,
+    );
 }
 
 pub fn clear_entry(words: &mut [u32], row: usize)
@@ -144,11 +151,7 @@ fn put_hold(holds: &mut [u32], row: usize, hold: HoldRow)
 {
     let at = row * HOLD_WIDTH;
     let name = hold.name;
-    holds[at] = pair_of(hold.directory, hold.process);
-    holds[at + 1] = name.first;
-    holds[at + 2] = name.second;
-    holds[at + 3] = name.third;
-    holds[at + 4] = name.fourth;
+    put_named(holds, at, hold.directory, hold.process, name);
     holds[at + 5] = role_word(hold.role);
 }
 
