@@ -74,7 +74,8 @@ pub fn joined_head(numbers: Numbers, length1: usize, length2: usize) -> u64
 {
     let high = (numbers.call as u64) * 65536 + (numbers.process as u64);
     let lengths = (length1 as u64) * 256 + (length2 as u64);
-    ((high * 65536 + (numbers.argument as u64)) * 65536 + lengths) * 8 + (numbers.zeros as u64)
+    ((high * 65536 + (numbers.argument as u64)) * 65536 + lengths) * LENGTH2_UNIT
+        + (numbers.zeros as u64)
 }
 
 pub fn write_head(destination: &mut [u8], head: u64)
