@@ -16,10 +16,11 @@ use Rattle.model.specs.Words.{bits, words, bytes, pack-entry, unpack-entry, pac
 use Rattle.laws.proofs.Each.{Each, none, one}
 use Rattle.laws.proofs.Pieces.{Byte}
 use Rattle.invariants.proofs.Words.{node-back, process-back}
+use Rattle.rows.specs.declared.Block.{Block}
 use Rattle.rows.specs.declared.EntryRow.{EntryRow}
 use Rattle.rows.specs.declared.HoldRow.{HoldRow}
 use Rattle.rows.specs.Blocks.{name-of, Named, place-of, word-from}
-use Rattle.rows.specs.Rows.{entry-of, hold-of, entry-words, hold-words, Good-entry, Good-hold}
+use Rattle.rows.specs.Rows.{entry-of, hold-of, named-words, entry-words, hold-words, Good-entry, Good-hold}
 use Rattle.rows.specs.Stands.{Stands, Becomes, with-entries, with-nodes, with-holds, with-processes}
 use Rattle.rows.proofs.Bytes.{target-word}
 use Rattle.rows.proofs.Writes.{write-entry, write-node, write-hold, write-process}
@@ -27,12 +28,12 @@ use Rattle.edits.specs.Nodes.{node-words}
 
 -- THE STORES OF A ROW
 
-pub entry-stored : (l : List ℕ) (at : ℕ) (e : EntryRow) {a : ℕ} → a ≡ e .directory * 65536 + e .node
-    → set (set (set (set (set l at a) (at + 1) (e .name .first)) (at + 2) (e .name .second)) (at + 3) (e .name .third)) (at + 4) (e .name .fourth) ≡ sets l at (entry-words e)
-entry-stored l at e q = rw q (simp towards-suc)
+pub named-stored : (l : List ℕ) (at upper lower : ℕ) (b : Block) {a : ℕ} → a ≡ upper * 65536 + lower
+    → set (set (set (set (set l at a) (at + 1) (b .first)) (at + 2) (b .second)) (at + 3) (b .third)) (at + 4) (b .fourth) ≡ sets l at (named-words upper lower b)
+named-stored l at upper lower b q = rw q (simp towards-suc)
 
-pub hold-stored : (l : List ℕ) (at : ℕ) (h : HoldRow) {a f : ℕ} → a ≡ h .directory * 65536 + h .process → f ≡ h .role * 1073741824
-    → set (set (set (set (set (set l at a) (at + 1) (h .name .first)) (at + 2) (h .name .second)) (at + 3) (h .name .third)) (at + 4) (h .name .fourth)) (at + 5) f ≡ sets l at (hold-words h)
+pub hold-stored : (l : List ℕ) (at : ℕ) (h : HoldRow) {a : ℕ} {v : List ℕ} → v ≡ sets l at (named-words (h .directory) (h .process) (h .name)) → a ≡ h .role * 1073741824
+    → set v (at + 5) a ≡ sets l at (hold-words h)
 hold-stored l at h p q = rw (p, q) (simp towards-suc)
 
 pub node-stored : (l : List ℕ) (at kind count : ℕ) (target : List ℕ) {a : ℕ} {v : List ℕ} → a ≡ kind * 1073741824 + length target * 8388608 + count * 8192

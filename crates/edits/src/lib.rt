@@ -1,4 +1,4 @@
-// Rows written into the lent words. Each table's part of the slice is lent on alone to the function that writes its row.
+// Rows written into the lent words: each table is a part of the slice, and only that part goes to the function that writes.
 ghost use mathlib.Core.Path.{_≡_};
 ghost use Prim.Native.Nat.{_+_, _*_, _/_, _≤_, _<_};
 ghost use lib.ListN.{length, getD, set, replicate};
@@ -7,18 +7,32 @@ ghost use Rattle.model.specs.Lists.{filled};
 ghost use Rattle.model.specs.Tables.{no-entry, no-node, no-hold, no-process, node-at};
 ghost use Rattle.model.specs.Calls.{set-node, one-more, one-less};
 ghost use Rattle.model.specs.Words.{words, unpack};
-ghost use Rattle.rows.specs.Rows.{entry-of, hold-of, entry-words, hold-words, Good-entry, Good-hold};
+ghost use Rattle.rows.specs.Rows.{entry-of, hold-of, named-words, hold-words, Good-entry, Good-hold};
 ghost use Rattle.rows.specs.Stands.{Stands, Becomes, with-entries, with-nodes, with-holds, with-processes, node-row};
 ghost use Rattle.edits.specs.Nodes.{node-words, with-count};
+use rows::Block;
+use rows::COUNT_UNIT;
+use rows::ENTRY_WIDTH;
 use rows::EntryRow;
+use rows::HOLD_WIDTH;
+use rows::HOLDS_START;
 use rows::HoldRow;
+use rows::LENGTH_UNIT;
+use rows::NODE_ROWS;
+use rows::NODE_WIDTH;
+use rows::NODES_START;
+use rows::PROCESSES_START;
+use rows::TARGET_WORDS;
+use rows::TOP_UNIT;
+use rows::UPPER_UNIT;
+use rows::WORD_COUNT;
 use rows::count_in;
 use rows::four_bytes;
 
-fn pair_of(a: u16, b: u16) -> u32
-    ensures { λ r. ⌜ r ≡ a * 65536 + b ⌝ }
+fn pair_of(upper: u16, lower: u16) -> u32
+    ensures { λ r. ⌜ r ≡ upper * 65536 + lower ⌝ }
 {
-    a as u32 * 65536 + b as u32
+    upper as u32 * UPPER_UNIT + lower as u32
 }
 
 // Zeros from `at` on.
@@ -33,33 +47,39 @@ fn put_zeros(part: &mut [u32], at: usize, count: usize)
     }
 }
 
-// ENTRIES
-
-fn put_entry(entries: &mut [u32], row: usize, e: EntryRow)
-    requires { ⌜ (length (now entries) ≡ 2560) × (row < 512) ⌝ }
-    ensures { λ _. ⌜ now (entries .exit) ≡ sets (now (entries .entry)) (row * 5) (entry-words e) ⌝ }
+// What an entry and a hold begin with: two numbers in one word, and a name.
+fn put_named(part: &mut [u32], at: usize, upper: u16, lower: u16, name: Block)
+    requires { ⌜ at + 5 ≤ length (now part) ⌝ }
+    ensures { λ _. ⌜ now (part .exit) ≡ sets (now (part .entry)) at (named-words upper lower name) ⌝ }
 {
-    let at = row * 5;
-    let name = e.name;
-    entries[at] = pair_of(e.directory, e.node);
-    entries[at + 1] = name.first;
-    entries[at + 2] = name.second;
-    entries[at + 3] = name.third;
-    entries[at + 4] = name.fourth;
+    part[at] = pair_of(upper, lower);
+    part[at + 1] = name.first;
+    part[at + 2] = name.second;
+    part[at + 3] = name.third;
+    part[at + 4] = name.fourth;
 }
 
-pub fn set_entry(words: &mut [u32], row: usize, e: EntryRow)
-    requires { ⌜ (Stands (now words)) × ((row < 512) × (Good-entry e)) ⌝ }
-    ensures { λ _. ⌜ Becomes (now (words .exit)) (with-entries (unpack (now (words .entry))) (set (unpack (now (words .entry)) .entries) row (entry-of e))) ⌝ }
+// ENTRIES
+
+pub fn set_entry(words: &mut [u32], row: usize, entry: EntryRow)
+    requires { ⌜ (Stands (now words)) × ((row < 512) × (Good-entry entry)) ⌝ }
+    ensures { λ _. ⌜ Becomes (now (words .exit)) (with-entries (unpack (now (words .entry))) (set (unpack (now (words .entry)) .entries) row (entry-of entry))) ⌝ }
 {
-    put_entry(&mut words[0..2560], row, e);
+    let name = entry.name;
+    put_named(
+        &mut words[0..NODES_START],
+        row * ENTRY_WIDTH,
+        entry.directory,
+        entry.node,
+        name,
+    );
 }
 
 pub fn clear_entry(words: &mut [u32], row: usize)
     requires { ⌜ (Stands (now words)) × (row < 512) ⌝ }
     ensures { λ _. ⌜ Becomes (now (words .exit)) (with-entries (unpack (now (words .entry))) (set (unpack (now (words .entry)) .entries) row no-entry)) ⌝ }
 {
-    put_zeros(&mut words[0..2560], row * 5, 5);
+    put_zeros(&mut words[0..NODES_START], row * ENTRY_WIDTH, ENTRY_WIDTH);
 }
 
 // NODES, by row
@@ -68,7 +88,7 @@ fn node_head(kind: u8, length: usize, count: u16) -> u32
     requires { ⌜ (kind < 4) × ((length < 128) × (count < 1024)) ⌝ }
     ensures { λ r. ⌜ r ≡ kind * 1073741824 + length * 8388608 + count * 8192 ⌝ }
 {
-    kind as u32 * 1073741824 + length as u32 * 8388608 + count as u32 * 8192
+    kind as u32 * TOP_UNIT + length as u32 * LENGTH_UNIT + count as u32 * COUNT_UNIT
 }
 
 // The target's bytes, four to a word, and zeros behind them.
@@ -77,7 +97,7 @@ fn put_target(nodes: &mut [u32], at: usize, target: &[u8])
     ensures { λ _. ⌜ now (nodes .exit) ≡ sets (now (nodes .entry)) at (words (filled 64 (now (target .entry)))) ⌝ }
 {
     let mut k = 0;
-    while k < 16 {
+    while k < TARGET_WORDS {
         nodes[at + k] = four_bytes(target, 0, target.len(), k * 4);
         k += 1;
     }
@@ -87,7 +107,7 @@ fn put_node(nodes: &mut [u32], row: usize, kind: u8, count: u16, target: &[u8])
     requires { ⌜ (length (now nodes) ≡ 4352) × ((row < 256) × ((kind < 4) × ((count < 1024) × (length (now target) ≤ 64)))) ⌝ }
     ensures { λ _. ⌜ now (nodes .exit) ≡ sets (now (nodes .entry)) (row * 17) (node-words kind count (now (target .entry))) ⌝ }
 {
-    let at = row * 17;
+    let at = row * NODE_WIDTH;
     nodes[at] = node_head(kind, target.len(), count);
     put_target(nodes, at + 1, target);
 }
@@ -96,14 +116,24 @@ pub fn set_node(words: &mut [u32], row: usize, kind: u8, count: u16, target: &[u
     requires { ⌜ (Stands (now words)) × ((row < 256) × ((1 ≤ kind) × ((kind < 4) × ((count < 1024) × (length (now target) ≤ 64))))) ⌝ }
     ensures { λ _. ⌜ Becomes (now (words .exit)) (with-nodes (unpack (now (words .entry))) (set (unpack (now (words .entry)) .nodes) row (record { kind = kind; count = count; target = now (target .entry) }))) ⌝ }
 {
-    put_node(&mut words[2560..6912], row, kind, count, target);
+    put_node(
+        &mut words[NODES_START..HOLDS_START],
+        row,
+        kind,
+        count,
+        target,
+    );
 }
 
-pub fn clear_node(words: &mut [u32], row: usize)
+fn clear_node(words: &mut [u32], row: usize)
     requires { ⌜ (Stands (now words)) × (row < 256) ⌝ }
     ensures { λ _. ⌜ Becomes (now (words .exit)) (with-nodes (unpack (now (words .entry))) (set (unpack (now (words .entry)) .nodes) row no-node)) ⌝ }
 {
-    put_zeros(&mut words[2560..6912], row * 17, 17);
+    put_zeros(
+        &mut words[NODES_START..HOLDS_START],
+        row * NODE_WIDTH,
+        NODE_WIDTH,
+    );
 }
 
 // HOLDS
@@ -112,35 +142,35 @@ fn role_word(role: u8) -> u32
     requires { ⌜ role < 4 ⌝ }
     ensures { λ r. ⌜ r ≡ role * 1073741824 ⌝ }
 {
-    role as u32 * 1073741824
+    role as u32 * TOP_UNIT
 }
 
-fn put_hold(holds: &mut [u32], row: usize, h: HoldRow)
-    requires { ⌜ (length (now holds) ≡ 1536) × ((row < 256) × (h .role < 4)) ⌝ }
-    ensures { λ _. ⌜ now (holds .exit) ≡ sets (now (holds .entry)) (row * 6) (hold-words h) ⌝ }
+fn put_hold(holds: &mut [u32], row: usize, hold: HoldRow)
+    requires { ⌜ (length (now holds) ≡ 1536) × ((row < 256) × (hold .role < 4)) ⌝ }
+    ensures { λ _. ⌜ now (holds .exit) ≡ sets (now (holds .entry)) (row * 6) (hold-words hold) ⌝ }
 {
-    let at = row * 6;
-    let name = h.name;
-    holds[at] = pair_of(h.directory, h.process);
-    holds[at + 1] = name.first;
-    holds[at + 2] = name.second;
-    holds[at + 3] = name.third;
-    holds[at + 4] = name.fourth;
-    holds[at + 5] = role_word(h.role);
+    let at = row * HOLD_WIDTH;
+    let name = hold.name;
+    put_named(holds, at, hold.directory, hold.process, name);
+    holds[at + 5] = role_word(hold.role);
 }
 
-pub fn set_hold(words: &mut [u32], row: usize, h: HoldRow)
-    requires { ⌜ (Stands (now words)) × ((row < 256) × ((h .role < 4) × (Good-hold h))) ⌝ }
-    ensures { λ _. ⌜ Becomes (now (words .exit)) (with-holds (unpack (now (words .entry))) (set (unpack (now (words .entry)) .holds) row (hold-of h))) ⌝ }
+pub fn set_hold(words: &mut [u32], row: usize, hold: HoldRow)
+    requires { ⌜ (Stands (now words)) × ((row < 256) × ((hold .role < 4) × (Good-hold hold))) ⌝ }
+    ensures { λ _. ⌜ Becomes (now (words .exit)) (with-holds (unpack (now (words .entry))) (set (unpack (now (words .entry)) .holds) row (hold-of hold))) ⌝ }
 {
-    put_hold(&mut words[6912..8448], row, h);
+    put_hold(&mut words[HOLDS_START..PROCESSES_START], row, hold);
 }
 
 pub fn clear_hold(words: &mut [u32], row: usize)
     requires { ⌜ (Stands (now words)) × (row < 256) ⌝ }
     ensures { λ _. ⌜ Becomes (now (words .exit)) (with-holds (unpack (now (words .entry))) (set (unpack (now (words .entry)) .holds) row no-hold)) ⌝ }
 {
-    put_zeros(&mut words[6912..8448], row * 6, 6);
+    put_zeros(
+        &mut words[HOLDS_START..PROCESSES_START],
+        row * HOLD_WIDTH,
+        HOLD_WIDTH,
+    );
 }
 
 // PROCESSES
@@ -156,14 +186,14 @@ pub fn set_process(words: &mut [u32], row: usize, process: u16, user: u16)
     requires { ⌜ (Stands (now words)) × ((row < 64) × (1 ≤ process)) ⌝ }
     ensures { λ _. ⌜ Becomes (now (words .exit)) (with-processes (unpack (now (words .entry))) (set (unpack (now (words .entry)) .processes) row (record { number = process; user = user }))) ⌝ }
 {
-    put_process(&mut words[8448..8512], row, process, user);
+    put_process(&mut words[PROCESSES_START..WORD_COUNT], row, process, user);
 }
 
 pub fn clear_process(words: &mut [u32], row: usize)
     requires { ⌜ (Stands (now words)) × (row < 64) ⌝ }
     ensures { λ _. ⌜ Becomes (now (words .exit)) (with-processes (unpack (now (words .entry))) (set (unpack (now (words .entry)) .processes) row no-process)) ⌝ }
 {
-    put_process(&mut words[8448..8512], row, 0, 0);
+    put_process(&mut words[PROCESSES_START..WORD_COUNT], row, 0, 0);
 }
 
 // HOW MANY ENTRIES LEAD TO A NODE
@@ -173,22 +203,22 @@ fn recounted(head: u32, count: u16) -> u32
     requires { ⌜ count < 1024 ⌝ }
     ensures { λ r. ⌜ r ≡ head / 8388608 * 8388608 + count * 8192 ⌝ }
 {
-    head / 8388608 * 8388608 + count as u32 * 8192
+    head / LENGTH_UNIT * LENGTH_UNIT + count as u32 * COUNT_UNIT
 }
 
 fn put_count(nodes: &mut [u32], row: usize, count: u16)
     requires { ⌜ (length (now nodes) ≡ 4352) × ((row < 256) × (count < 1024)) ⌝ }
     ensures { λ _. ⌜ now (nodes .exit) ≡ set (now (nodes .entry)) (row * 17) (getD (now (nodes .entry)) (row * 17) 0 / 8388608 * 8388608 + count * 8192) ⌝ }
 {
-    let at = row * 17;
+    let at = row * NODE_WIDTH;
     nodes[at] = recounted(nodes[at], count);
 }
 
-pub fn set_count(words: &mut [u32], row: usize, count: u16)
+fn set_count(words: &mut [u32], row: usize, count: u16)
     requires { ⌜ (Stands (now words)) × ((row < 256) × ((1 ≤ node-row (now words) row .kind) × (count < 1024))) ⌝ }
     ensures { λ _. ⌜ Becomes (now (words .exit)) (with-nodes (unpack (now (words .entry))) (set (unpack (now (words .entry)) .nodes) row (with-count count (node-row (now (words .entry)) row)))) ⌝ }
 {
-    put_count(&mut words[2560..6912], row, count);
+    put_count(&mut words[NODES_START..HOLDS_START], row, count);
 }
 
 // One entry more leads to the node.
@@ -196,15 +226,15 @@ pub fn add_one_entry(words: &mut [u32], node: u16)
     requires { ⌜ (Stands (now words)) × ((1 ≤ node-at (unpack (now words) .nodes) node .kind) × (node-at (unpack (now words) .nodes) node .count < 1023)) ⌝ }
     ensures { λ _. ⌜ Becomes (now (words .exit)) (with-nodes (unpack (now (words .entry))) (set-node node (one-more (node-at (unpack (now (words .entry)) .nodes) node)) (unpack (now (words .entry)) .nodes))) ⌝ }
 {
-    let n = node as usize;
-    if n == 0 {
+    let number = node as usize;
+    if number == 0 {
         return;
     }
-    if n > 256 {
+    if number > NODE_ROWS {
         return;
     }
-    let count = count_in(words, n - 1);
-    set_count(words, n - 1, count + 1);
+    let count = count_in(words, number - 1);
+    set_count(words, number - 1, count + 1);
 }
 
 // One entry less leads to the node; it is cleared where that was the last.
@@ -212,20 +242,20 @@ pub fn drop_one_entry(words: &mut [u32], node: u16)
     requires { ⌜ Stands (now words) ⌝ }
     ensures { λ _. ⌜ Becomes (now (words .exit)) (with-nodes (unpack (now (words .entry))) (set-node node (one-less (node-at (unpack (now (words .entry)) .nodes) node)) (unpack (now (words .entry)) .nodes))) ⌝ }
 {
-    let n = node as usize;
-    if n == 0 {
+    let number = node as usize;
+    if number == 0 {
         return;
     }
-    if n > 256 {
+    if number > NODE_ROWS {
         return;
     }
-    let count = count_in(words, n - 1);
+    let count = count_in(words, number - 1);
     if count == 0 {
         return;
     }
     if count == 1 {
-        clear_node(words, n - 1);
+        clear_node(words, number - 1);
         return;
     }
-    set_count(words, n - 1, count - 1);
+    set_count(words, number - 1, count - 1);
 }

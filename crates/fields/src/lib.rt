@@ -7,6 +7,8 @@ ghost use Rattle.fields.specs.Given.{given, numbers-broken, fault-of};
 
 pub mod table;
 
+use model::BAD_FIELD;
+use model::BAD_PATH;
 use table::Row;
 use table::Wanted;
 
@@ -18,20 +20,16 @@ pub struct Numbers {
     pub zeros: u8,
 }
 
-const BAD_FIELDS: u8 = 2;
-
-const BAD_PATHS: u8 = 3;
-
 // The number that a call's fields are refused with by reading and packing, 0 for none.
 pub fn fault(numbers: Numbers, path1: &[u8], path2: &[u8]) -> u8
     ensures { λ r. ⌜ r ≡ fault-of (well-formed (given numbers (now (path1 .entry)) (now (path2 .entry)))) ⌝ }
 {
     let row = table::row_of(numbers.call);
     if fields_broken(row, numbers, path1, path2) {
-        return BAD_FIELDS;
+        return BAD_FIELD;
     }
     if paths_broken(row, path1, path2) {
-        return BAD_PATHS;
+        return BAD_PATH;
     }
     0
 }
@@ -40,26 +38,27 @@ pub fn fault(numbers: Numbers, path1: &[u8], path2: &[u8]) -> u8
 fn fields_broken(row: Row, numbers: Numbers, path1: &[u8], path2: &[u8]) -> bool
     ensures { λ r. ⌜ r ≡ (numbers-broken numbers (row .1) || not-blank (meant (row .2)) (now (path1 .entry)) || not-blank (meant (row .3)) (now (path2 .entry))) ⌝ }
 {
-    let wanted1 = row.2;
-    let wanted2 = row.3;
-    if numbers_broken(numbers, row.1) {
+    let argument_wanted = row.1;
+    let path1_wanted = row.2;
+    let path2_wanted = row.3;
+    if numbers_broken(numbers, argument_wanted) {
         return true;
     }
-    if filled_blank(wanted1, path1) {
+    if filled_blank(path1_wanted, path1) {
         return true;
     }
-    filled_blank(wanted2, path2)
+    filled_blank(path2_wanted, path2)
 }
 
 fn paths_broken(row: Row, path1: &[u8], path2: &[u8]) -> bool
     ensures { λ r. ⌜ r ≡ (not-valid (meant (row .2)) (now (path1 .entry)) || not-valid (meant (row .3)) (now (path2 .entry))) ⌝ }
 {
-    let wanted1 = row.2;
-    let wanted2 = row.3;
-    if not_valid(wanted1, path1) {
+    let path1_wanted = row.2;
+    let path2_wanted = row.3;
+    if not_valid(path1_wanted, path1) {
         return true;
     }
-    not_valid(wanted2, path2)
+    not_valid(path2_wanted, path2)
 }
 
 // What is wrong in the numbers alone, where the call's row wants an argument or not.

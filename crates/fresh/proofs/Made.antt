@@ -1,4 +1,4 @@
--- What making words fresh comes to, and that no other answer and no other words meet its contract. Assumes nothing.
+-- What making words fresh comes to. Assumes nothing.
 use mathlib.Core.Path.{_≡_, refl, sym, ap, _∙_}
 use mathlib.Core.List.{List}
 use Prim.Native.Nat.{ℕ, _+_, _<_}
@@ -7,11 +7,10 @@ use native.Mathlib.Nat.{zero-add}
 use borrow.Author.Tests.{eq-eqb, ne-eqb}
 use lib.ListN.{length, drop, set, replicate, length-replicate, getD-replicate}
 use lib.Seq.{sets}
-use Rattle.model.specs.Refusals.{Outcome, refused, granted, _>>_}
+use Rattle.model.specs.Refusals.{refused, granted, _>>_}
 use Rattle.model.specs.Serve.{made-fresh, fresh-words, computing}
 use Rattle.laws.proofs.Loops.{store-onward}
 use Rattle.laws.proofs.Pieces.{sets-whole}
-use Rattle.fresh.specs.declared.Prepared.{Prepared}
 use Rattle.fresh.specs.declared.Prepared.the-variants.{Ready, Refused}
 use Rattle.fresh.specs.Prepared.{answer-of, words-after, Prepares}
 
@@ -37,10 +36,6 @@ prepares w h e =
 
 pub refuses : (w : List ℕ) → (length w ≡ 8512 → ⊥) → Prepares w (made-fresh w) (Refused 1) w
 refuses w h = let m = refused-of-length w h in record { answer = ap answer-of (sym m); words = ap (words-after w) (sym m) }
-
--- one answer and one list of words meet the contract
-pub one-result : {w : List ℕ} {o : Outcome (List ℕ)} {r t : Prepared} {v u : List ℕ} → Prepares w o r v → Prepares w o t u → (r ≡ t) × (v ≡ u)
-one-result a b = (a .answer ∙ sym (b .answer), a .words ∙ sym (b .words))
 
 pub all-cleared : (l : List ℕ) → sets l (0 + 0) (replicate (length l) 0) ≡ replicate (length l) 0
 all-cleared l = sets-whole l (replicate (length l) 0) (length-replicate {A = ℕ} (length l) 0)

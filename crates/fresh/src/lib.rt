@@ -3,13 +3,14 @@ ghost use mathlib.Core.Path.{_≡_};
 ghost use lib.ListN.{length, replicate};
 ghost use Rattle.model.specs.Serve.{made-fresh};
 ghost use Rattle.fresh.specs.Prepared.{Prepares};
-
-const WORD_COUNT: usize = 8512;
-
-const FIRST_NODE_WORD: usize = 2560;
+use model::UNSOUND;
+use rows::DIRECTORY;
+use rows::NODES_START;
+use rows::TOP_UNIT;
+use rows::WORD_COUNT;
 
 // The first word of a directory to which no entry leads.
-const EMPTY_DIRECTORY: u32 = 2147483648;
+const EMPTY_DIRECTORY: u32 = DIRECTORY as u32 * TOP_UNIT;
 
 pub enum Prepared {
     Ready,
@@ -31,9 +32,9 @@ pub fn fresh(words: &mut [u32]) -> Prepared
     ensures { λ r. ⌜ Prepares (now (words .entry)) (made-fresh (now (words .entry))) r (now (words .exit)) ⌝ }
 {
     if words.len() != WORD_COUNT {
-        return Prepared::Refused(1);
+        return Prepared::Refused(UNSOUND);
     }
     clear_all(words);
-    words[FIRST_NODE_WORD] = EMPTY_DIRECTORY;
+    words[NODES_START] = EMPTY_DIRECTORY;
     Prepared::Ready
 }

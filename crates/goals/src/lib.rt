@@ -3,6 +3,7 @@ ghost use mathlib.Core.Path.{_≡_};
 ghost use Rattle.model.specs.Calls.{absent};
 ghost use Rattle.goals.specs.Goals.{goal-of};
 use rows::Block;
+use rows::ROOT;
 
 // A directory's node and a name in it.
 pub struct Place {
@@ -30,7 +31,7 @@ pub fn node_of(walk: Walk) -> u16
     let stop = walk.stop;
     match stop {
         Stop::Refused(_) => 0,
-        Stop::Root => 1,
+        Stop::Root => ROOT,
         Stop::Entry { place: _, node } => node,
     }
 }

@@ -10,6 +10,17 @@ use fields::Numbers;
 
 pub const HEAD_LENGTH: usize = 7;
 
+// What one in a field is worth in the head; the zero bits are below the length of path 2.
+const CALL_UNIT: u64 = 1 << 51;
+
+const PROCESS_UNIT: u64 = 1 << 35;
+
+const ARGUMENT_UNIT: u64 = 1 << 19;
+
+const LENGTH1_UNIT: u64 = 1 << 11;
+
+const LENGTH2_UNIT: u64 = 1 << 3;
+
 fn wide(byte: u8) -> u64
     ensures { λ r. ⌜ (r ≡ byte) × (r < 256) ⌝ }
 {
@@ -37,23 +48,23 @@ pub fn numbers_of(head: u64) -> Numbers
     ensures { λ r. ⌜ r ≡ numbers-in head ⌝ }
 {
     Numbers {
-        call: (head / 2251799813685248 % 32) as u32,
-        process: (head / 34359738368 % 65536) as u16,
-        argument: (head / 524288 % 65536) as u16,
-        zeros: (head % 8) as u8,
+        call: (head / CALL_UNIT % 32) as u32,
+        process: (head / PROCESS_UNIT % 65536) as u16,
+        argument: (head / ARGUMENT_UNIT % 65536) as u16,
+        zeros: (head % LENGTH2_UNIT) as u8,
     }
 }
 
 pub fn path1_length(head: u64) -> usize
     ensures { λ r. ⌜ r ≡ bits 11 8 head ⌝ }
 {
-    (head / 2048 % 256) as usize
+    (head / LENGTH1_UNIT % 256) as usize
 }
 
 pub fn path2_length(head: u64) -> usize
     ensures { λ r. ⌜ r ≡ bits 3 8 head ⌝ }
 {
-    (head / 8 % 256) as usize
+    (head / LENGTH2_UNIT % 256) as usize
 }
 
 // The head of a record: the numbers and the lengths of its paths.
@@ -63,7 +74,8 @@ pub fn joined_head(numbers: Numbers, length1: usize, length2: usize) -> u64
 {
     let high = (numbers.call as u64) * 65536 + (numbers.process as u64);
     let lengths = (length1 as u64) * 256 + (length2 as u64);
-    ((high * 65536 + (numbers.argument as u64)) * 65536 + lengths) * 8 + (numbers.zeros as u64)
+    ((high * 65536 + (numbers.argument as u64)) * 65536 + lengths) * LENGTH2_UNIT
+        + (numbers.zeros as u64)
 }
 
 pub fn write_head(destination: &mut [u8], head: u64)

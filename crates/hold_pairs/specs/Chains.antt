@@ -6,14 +6,10 @@ use lib.Dec.{eqb}
 use Rattle.model.specs.Tables.{Place, Hold, same-place, user-of}
 use Rattle.model.specs.Sound.{same-hold, is-end}
 use Rattle.model.specs.Words.{unpack}
-use Rattle.rows.specs.declared.Block.{Block}
 use Rattle.rows.specs.Blocks.{block-of}
 use Rattle.rows.specs.Stands.{hold-row}
 use Rattle.index.specs.Buckets.{last-below}
-
--- any function of a directory and a name would do
-unfoldable pub sum-of : ℕ → Block → ℕ
-sum-of d b = d * 577 + b .first * 211 + b .second * 863 + b .third * 389 + b .fourth * 727
+use Rattle.index.specs.Indexed.{sum-of}
 
 abbrev pub place-sum : Place → ℕ
 place-sum q = sum-of (q .directory) (block-of (q .name))

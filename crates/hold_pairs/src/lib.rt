@@ -9,25 +9,30 @@ ghost use Rattle.index.specs.Buckets.{last-below};
 ghost use Rattle.index.specs.Descent.{Descent};
 ghost use Rattle.process_index.specs.Processes.{Processes-indexed};
 ghost use Rattle.hold_rules.specs.Used.{hold-used, used-rows};
-ghost use Rattle.hold_pairs.specs.Chains.{sum-of, hold-bucket, same-as-row, end-row, place-bucket, end-at-row, last-agrees};
+ghost use Rattle.hold_pairs.specs.Chains.{hold-bucket, same-as-row, end-row, place-bucket, end-at-row, last-agrees};
+use index::sum_of;
+use process_index::PROCESS_BUCKETS;
 use process_index::user_in_index;
-use process_index::wide;
-use rows::Block;
+use rows::END;
+use rows::HOLD_ROWS;
+use rows::PROCESS_ROWS;
 use rows::hold_directory;
 use rows::hold_name;
 use rows::hold_process;
 use rows::hold_role;
+use rows::wide;
 use search::hold_is_on;
 
-const END: u8 = 1;
+// How many chains there are.
+const HOLD_BUCKETS: usize = 509;
 
 // Whether no hold stands in two rows. The chains go by process too, so that many processes on one place make no long one.
 pub fn holds_apart(words: &[u32], rows: usize) -> bool
     requires { ⌜ (Stands (now words)) × (rows ≡ used-rows (now words)) ⌝ }
     ensures { λ r. ⌜ r ≡ holds-distinct (unpack (now (words .entry))) ⌝ }
 {
-    let mut heads = [0u16; 509];
-    let mut next = [0u16; 256];
+    let mut heads = [0u16; HOLD_BUCKETS];
+    let mut next = [0u16; HOLD_ROWS];
     let mut row = 0;
     while row < rows {
         if hold_directory(words, row) != 0 {
@@ -45,12 +50,17 @@ pub fn holds_apart(words: &[u32], rows: usize) -> bool
 }
 
 // Whether all end holds on one place are of one user. Each is compared with the last before it alone: those before agree.
-pub fn ends_agree(words: &[u32], heads: &[u16; 127], next: &[u16; 64], rows: usize) -> bool
+pub fn ends_agree(
+    words: &[u32],
+    heads: &[u16; PROCESS_BUCKETS],
+    next: &[u16; PROCESS_ROWS],
+    rows: usize,
+) -> bool
     requires { ⌜ (Processes-indexed (now words) (now heads) (now next)) × (rows ≡ used-rows (now words)) ⌝ }
     ensures { λ r. ⌜ r ≡ ends-of-one-user (unpack (now (words .entry))) ⌝ }
 {
-    let mut place_heads = [0u16; 509];
-    let mut place_next = [0u16; 256];
+    let mut place_heads = [0u16; HOLD_BUCKETS];
+    let mut place_next = [0u16; HOLD_ROWS];
     let mut row = 0;
     while row < rows {
         if hold_role(words, row) == END {
@@ -67,21 +77,11 @@ pub fn ends_agree(words: &[u32], heads: &[u16; 127], next: &[u16; 64], rows: usi
     true
 }
 
-fn sum_of(directory: u16, name: Block) -> u64
-    ensures { λ r. ⌜ (r ≡ sum-of directory name) × (r < 17592186044416) ⌝ }
-{
-    directory as u64 * 577
-        + name.first as u64 * 211
-        + name.second as u64 * 863
-        + name.third as u64 * 389
-        + name.fourth as u64 * 727
-}
-
 fn bucket_of_place(words: &[u32], row: usize) -> usize
     requires { ⌜ (Stands (now words)) × (row < 256) ⌝ }
     ensures { λ r. ⌜ (r ≡ place-bucket (now (words .entry)) row) × (r < 509) ⌝ }
 {
-    (sum_of(hold_directory(words, row), hold_name(words, row)) % 509) as usize
+    (sum_of(hold_directory(words, row), hold_name(words, row)) % HOLD_BUCKETS as u64) as usize
 }
 
 fn bucket_of_hold(words: &[u32], row: usize) -> usize
@@ -89,11 +89,11 @@ fn bucket_of_hold(words: &[u32], row: usize) -> usize
     ensures { λ r. ⌜ (r ≡ hold-bucket (now (words .entry)) row) × (r < 509) ⌝ }
 {
     let sum = sum_of(hold_directory(words, row), hold_name(words, row));
-    ((sum + hold_process(words, row) as u64 * 401) % 509) as usize
+    ((sum + hold_process(words, row) as u64 * 401) % HOLD_BUCKETS as u64) as usize
 }
 
 // One more than the last row before `row` with the same hold, along its chain; 0 for none.
-fn last_same(words: &[u32], next: &[u16; 256], from: u16, row: usize) -> usize
+fn last_same(words: &[u32], next: &[u16; HOLD_ROWS], from: u16, row: usize) -> usize
     requires { ⌜ (Stands (now words)) × ((row < 256) × (Descent (hold-used (now words)) (hold-bucket (now words)) (same-as-row (now words) row) (now next) from (hold-bucket (now words) row) row)) ⌝ }
     ensures { λ r. ⌜ r ≡ last-below (same-as-row (now (words .entry)) row) row ⌝ }
 {
@@ -108,7 +108,7 @@ fn last_same(words: &[u32], next: &[u16; 256], from: u16, row: usize) -> usize
 }
 
 // One more than the last row before `row` with an end hold on the same place, along its chain; 0 for none.
-fn last_end(words: &[u32], next: &[u16; 256], from: u16, row: usize) -> usize
+fn last_end(words: &[u32], next: &[u16; HOLD_ROWS], from: u16, row: usize) -> usize
     requires { ⌜ (Stands (now words)) × ((row < 256) × (Descent (end-row (now words)) (place-bucket (now words)) (end-at-row (now words) row) (now next) from (place-bucket (now words) row) row)) ⌝ }
     ensures { λ r. ⌜ r ≡ last-below (end-at-row (now (words .entry)) row) row ⌝ }
 {
@@ -125,9 +125,9 @@ fn last_end(words: &[u32], next: &[u16; 256], from: u16, row: usize) -> usize
 // Whether no end hold on the place is before `row`, or the last is of the same user.
 fn agrees_with_last(
     words: &[u32],
-    heads: &[u16; 127],
-    next: &[u16; 64],
-    links: &[u16; 256],
+    heads: &[u16; PROCESS_BUCKETS],
+    next: &[u16; PROCESS_ROWS],
+    links: &[u16; HOLD_ROWS],
     from: u16,
     row: usize,
 ) -> bool

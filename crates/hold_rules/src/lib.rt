@@ -9,7 +9,11 @@ ghost use Rattle.model.specs.Words.{unpack};
 ghost use Rattle.rows.specs.Stands.{Stands, hold-row};
 ghost use Rattle.process_index.specs.Processes.{Processes-indexed};
 ghost use Rattle.hold_rules.specs.Used.{used-rows};
+use process_index::PROCESS_BUCKETS;
 use process_index::is_in_index;
+use rows::DIRECTORY;
+use rows::HOLD_ROWS;
+use rows::PROCESS_ROWS;
 use rows::hold_directory;
 use rows::hold_process;
 use rows::node_kind;
@@ -19,7 +23,7 @@ pub fn used_hold_rows(words: &[u32]) -> usize
     requires { ⌜ Stands (now words) ⌝ }
     ensures { λ r. ⌜ r ≡ used-rows (now (words .entry)) ⌝ }
 {
-    let mut rows = 256;
+    let mut rows = HOLD_ROWS;
     while rows != 0 {
         if hold_directory(words, rows - 1) != 0 {
             return rows;
@@ -30,7 +34,12 @@ pub fn used_hold_rows(words: &[u32]) -> usize
 }
 
 // Whether each hold is in a directory and of a listed process.
-pub fn holds_placed(words: &[u32], heads: &[u16; 127], next: &[u16; 64], rows: usize) -> bool
+pub fn holds_placed(
+    words: &[u32],
+    heads: &[u16; PROCESS_BUCKETS],
+    next: &[u16; PROCESS_ROWS],
+    rows: usize,
+) -> bool
     requires { ⌜ (Processes-indexed (now words) (now heads) (now next)) × (rows ≡ used-rows (now words)) ⌝ }
     ensures { λ r. ⌜ r ≡ (holds-in-directories (unpack (now (words .entry))) && holds-of-listed (unpack (now (words .entry)))) ⌝ }
 {
@@ -44,7 +53,12 @@ pub fn holds_placed(words: &[u32], heads: &[u16; 127], next: &[u16; 64], rows: u
     true
 }
 
-fn hold_placed(words: &[u32], heads: &[u16; 127], next: &[u16; 64], row: usize) -> bool
+fn hold_placed(
+    words: &[u32],
+    heads: &[u16; PROCESS_BUCKETS],
+    next: &[u16; PROCESS_ROWS],
+    row: usize,
+) -> bool
     requires { ⌜ (Processes-indexed (now words) (now heads) (now next)) × (row < 256) ⌝ }
     ensures { λ r. ⌜ r ≡ (free-hold (hold-row (now (words .entry)) row) || (is-directory (unpack (now (words .entry)) .nodes) (hold-row (now (words .entry)) row .place .directory) && (not (eqb (hold-row (now (words .entry)) row .process) 0) && listed (unpack (now (words .entry)) .processes) (hold-row (now (words .entry)) row .process)))) ⌝ }
 {
@@ -52,7 +66,7 @@ fn hold_placed(words: &[u32], heads: &[u16; 127], next: &[u16; 64], row: usize) 
     if directory == 0 {
         return true;
     }
-    if node_kind(words, directory) != 2 {
+    if node_kind(words, directory) != DIRECTORY {
         return false;
     }
     let process = hold_process(words, row);

@@ -11,9 +11,12 @@ use Rattle.rows.specs.Blocks.{Named, block-of}
 use Rattle.rows.specs.Stands.{Stands, entry-row}
 use Rattle.index.specs.Buckets.{last-below, in-bucket, Linked, Chained}
 
--- the bucket of a directory and a name; any function of the two would do
+-- the sum that buckets go by; any function of a directory and a name would do
+unfoldable pub sum-of : ℕ → Block → ℕ
+sum-of d b = d * 577 + b .first * 211 + b .second * 863 + b .third * 389 + b .fourth * 727
+
 unfoldable pub place-bucket : ℕ → Block → ℕ
-place-bucket d b = (d * 577 + b .first * 211 + b .second * 863 + b .third * 389 + b .fourth * 727) % 1021
+place-bucket d b = sum-of d b % 1021
 
 abbrev pub entry-used : List ℕ → ℕ → Bool
 entry-used w k = not (free-entry (entry-row w k))

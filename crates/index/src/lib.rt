@@ -10,20 +10,29 @@ ghost use Rattle.model.specs.Words.{unpack};
 ghost use Rattle.rows.specs.Blocks.{Named, place-of};
 ghost use Rattle.rows.specs.Stands.{Stands};
 ghost use Rattle.index.specs.Buckets.{last-below};
-ghost use Rattle.index.specs.Indexed.{place-bucket, row-at, Chain-of, Indexed};
+ghost use Rattle.index.specs.Indexed.{sum-of, place-bucket, row-at, Chain-of, Indexed};
 use rows::Block;
+use rows::ENTRY_ROWS;
 use rows::entry_directory;
 use rows::entry_name;
 use rows::entry_node;
+use rows::wide;
 use search::entry_is_at;
 
+// How many chains there are.
+pub const BUCKETS: usize = 1021;
+
 // Whether the used entries differ in directory and name; and where they do, their index.
-pub fn index_entries(words: &[u32], heads: &mut [u16; 1021], next: &mut [u16; 512]) -> bool
+pub fn index_entries(
+    words: &[u32],
+    heads: &mut [u16; BUCKETS],
+    next: &mut [u16; ENTRY_ROWS],
+) -> bool
     requires { ⌜ (Stands (now words)) × ((now heads ≡ replicate 1021 0) × (now next ≡ replicate 512 0)) ⌝ }
     ensures { λ r. ⌜ (r ≡ entries-distinct (unpack (now (words .entry)))) × (r ≡ true → Indexed (now (words .entry)) (now (heads .exit)) (now (next .exit))) ⌝ }
 {
     let mut row = 0;
-    while row < 512 {
+    while row < ENTRY_ROWS {
         let directory = entry_directory(words, row);
         if directory != 0 {
             let name = entry_name(words, row);
@@ -43,8 +52,8 @@ pub fn index_entries(words: &[u32], heads: &mut [u16; 1021], next: &mut [u16; 51
 // The node that the entry at a place leads to, 0 for an absence.
 pub fn lookup(
     words: &[u32],
-    heads: &[u16; 1021],
-    next: &[u16; 512],
+    heads: &[u16; BUCKETS],
+    next: &[u16; ENTRY_ROWS],
     directory: u16,
     name: Block,
 ) -> u16
@@ -55,34 +64,34 @@ pub fn lookup(
         return 0;
     }
     let bucket = bucket_of(directory, name);
-    let found = last_at(words, next, heads[bucket], directory, name, 512);
+    let found = last_at(words, next, heads[bucket], directory, name, ENTRY_ROWS);
     if found == 0 {
         return 0;
     }
     entry_node(words, found - 1)
 }
 
-fn bucket_of(directory: u16, name: Block) -> usize
-    ensures { λ r. ⌜ (r ≡ place-bucket directory name) × (r < 1021) ⌝ }
+// What the bucket of a place goes by.
+pub fn sum_of(directory: u16, name: Block) -> u64
+    ensures { λ r. ⌜ (r ≡ sum-of directory name) × (r < 17592186044416) ⌝ }
 {
-    let sum = directory as u64 * 577
+    directory as u64 * 577
         + name.first as u64 * 211
         + name.second as u64 * 863
         + name.third as u64 * 389
-        + name.fourth as u64 * 727;
-    (sum % 1021) as usize
+        + name.fourth as u64 * 727
 }
 
-fn wide(x: u16) -> usize
-    ensures { λ r. ⌜ r ≡ x ⌝ }
+fn bucket_of(directory: u16, name: Block) -> usize
+    ensures { λ r. ⌜ (r ≡ place-bucket directory name) × (r < 1021) ⌝ }
 {
-    x as usize
+    (sum_of(directory, name) % BUCKETS as u64) as usize
 }
 
 // One more than the last row below `limit` whose entry is at the place, along its chain; 0 for none.
 fn last_at(
     words: &[u32],
-    next: &[u16; 512],
+    next: &[u16; ENTRY_ROWS],
     from: u16,
     directory: u16,
     name: Block,

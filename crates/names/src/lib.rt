@@ -4,12 +4,13 @@ ghost use mathlib.Core.List.{[], _∷_};
 ghost use Prim.Native.Nat.{_<_};
 ghost use Rattle.model.specs.Words.{bytes};
 ghost use Rattle.names.specs.Fits.{fits, good-name, number, tops, differing};
+use paths::LONGEST_NAME;
 use rows::Block;
 
 // A dot alone, and two, as the first word of a block.
-const ONE_DOT: u32 = 19791872;
+const ONE_DOT: u32 = 0x012e0000;
 
-const TWO_DOTS: u32 = 36580864;
+const TWO_DOTS: u32 = 0x022e2e00;
 
 // Of eight bytes the lower seven bits each, and the top bits; and eight slashes.
 const LOW_BITS: u64 = 0x7f7f7f7f7f7f7f7f;
@@ -26,7 +27,7 @@ pub fn is_good_name(name: Block) -> bool
     if length == 0 {
         return false;
     }
-    if length > 14 {
+    if length > LONGEST_NAME {
         return false;
     }
     if name.first == ONE_DOT {

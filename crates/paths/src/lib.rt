@@ -12,7 +12,7 @@ const SLASH: u8 = b'/';
 
 const DOT: u8 = b'.';
 
-const LONGEST_NAME: usize = 14;
+pub const LONGEST_NAME: usize = 14;
 
 const LONGEST_PATH: usize = 255;
 

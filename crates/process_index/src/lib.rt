@@ -11,16 +11,25 @@ ghost use Rattle.rows.specs.Stands.{Stands};
 ghost use Rattle.index.specs.Buckets.{last-below};
 ghost use Rattle.index.specs.Descent.{Descent};
 ghost use Rattle.process_index.specs.Processes.{process-used, process-bucket, row-of, Processes-indexed};
+use rows::PROCESS_ROWS;
 use rows::process_number;
 use rows::process_user;
+use rows::wide;
+
+// How many chains there are.
+pub const PROCESS_BUCKETS: usize = 127;
 
 // Whether the listed processes differ in number; and where they do, their index.
-pub fn index_processes(words: &[u32], heads: &mut [u16; 127], next: &mut [u16; 64]) -> bool
+pub fn index_processes(
+    words: &[u32],
+    heads: &mut [u16; PROCESS_BUCKETS],
+    next: &mut [u16; PROCESS_ROWS],
+) -> bool
     requires { ⌜ (Stands (now words)) × ((now heads ≡ replicate 127 0) × (now next ≡ replicate 64 0)) ⌝ }
     ensures { λ r. ⌜ (r ≡ processes-distinct (unpack (now (words .entry)))) × (r ≡ true → Processes-indexed (now (words .entry)) (now (heads .exit)) (now (next .exit))) ⌝ }
 {
     let mut row = 0;
-    while row < 64 {
+    while row < PROCESS_ROWS {
         let number = process_number(words, row);
         if number != 0 {
             let bucket = bucket_of(number);
@@ -36,7 +45,12 @@ pub fn index_processes(words: &[u32], heads: &mut [u16; 127], next: &mut [u16; 6
     true
 }
 
-pub fn is_in_index(words: &[u32], heads: &[u16; 127], next: &[u16; 64], process: u16) -> bool
+pub fn is_in_index(
+    words: &[u32],
+    heads: &[u16; PROCESS_BUCKETS],
+    next: &[u16; PROCESS_ROWS],
+    process: u16,
+) -> bool
     requires { ⌜ (Processes-indexed (now words) (now heads) (now next)) × (process ≡ 0 → ⊥) ⌝ }
     ensures { λ r. ⌜ r ≡ listed (unpack (now (words .entry)) .processes) process ⌝ }
 {
@@ -44,7 +58,12 @@ pub fn is_in_index(words: &[u32], heads: &[u16; 127], next: &[u16; 64], process:
 }
 
 // The user of a process, 0 where it is not listed.
-pub fn user_in_index(words: &[u32], heads: &[u16; 127], next: &[u16; 64], process: u16) -> u16
+pub fn user_in_index(
+    words: &[u32],
+    heads: &[u16; PROCESS_BUCKETS],
+    next: &[u16; PROCESS_ROWS],
+    process: u16,
+) -> u16
     requires { ⌜ Processes-indexed (now words) (now heads) (now next) ⌝ }
     ensures { λ r. ⌜ r ≡ user-of (unpack (now (words .entry)) .processes) process ⌝ }
 {
@@ -59,29 +78,33 @@ pub fn user_in_index(words: &[u32], heads: &[u16; 127], next: &[u16; 64], proces
 }
 
 // One more than the row of a process, 0 for none.
-fn find_in_index(words: &[u32], heads: &[u16; 127], next: &[u16; 64], process: u16) -> usize
+fn find_in_index(
+    words: &[u32],
+    heads: &[u16; PROCESS_BUCKETS],
+    next: &[u16; PROCESS_ROWS],
+    process: u16,
+) -> usize
     requires { ⌜ (Processes-indexed (now words) (now heads) (now next)) × (process ≡ 0 → ⊥) ⌝ }
     ensures { λ r. ⌜ r ≡ last-below (row-of (now (words .entry)) process) 64 ⌝ }
 {
     let bucket = bucket_of(process);
-    last_of(words, next, heads[bucket], process, 64)
+    last_of(words, next, heads[bucket], process, PROCESS_ROWS)
 }
 
 fn bucket_of(process: u16) -> usize
     ensures { λ r. ⌜ (r ≡ process % 127) × (r < 127) ⌝ }
 {
-    (process % 127) as usize
-}
-
-// A link as a row plus 1.
-pub fn wide(x: u16) -> usize
-    ensures { λ r. ⌜ r ≡ x ⌝ }
-{
-    x as usize
+    process as usize % PROCESS_BUCKETS
 }
 
 // One more than the last row below `limit` with the number, along its chain; 0 for none.
-fn last_of(words: &[u32], next: &[u16; 64], from: u16, process: u16, limit: usize) -> usize
+fn last_of(
+    words: &[u32],
+    next: &[u16; PROCESS_ROWS],
+    from: u16,
+    process: u16,
+    limit: usize,
+) -> usize
     requires { ⌜ (Stands (now words)) × ((limit ≤ 64) × (Descent (process-used (now words)) (process-bucket (now words)) (row-of (now words) process) (now next) from (process % 127) limit)) ⌝ }
     ensures { λ r. ⌜ r ≡ last-below (row-of (now (words .entry)) process) limit ⌝ }
 {

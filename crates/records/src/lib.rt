@@ -10,10 +10,8 @@ ghost use Rattle.records.specs.Reading.{fields-at, reading};
 ghost use Rattle.records.specs.Packing.{called, Packs};
 use fields::Numbers;
 use heads::HEAD_LENGTH;
-
-const TOO_SHORT: u8 = 17;
-
-const NO_ROOM: u8 = 18;
+use model::SHORT_DESTINATION;
+use model::SHORT_RECORD;
 
 // Where a path stands in a record.
 pub struct Part {
@@ -48,7 +46,7 @@ pub fn read(bytes: &[u8]) -> Reading
 {
     if bytes.len() < HEAD_LENGTH {
         return Reading::Refused {
-            number: TOO_SHORT,
+            number: SHORT_RECORD,
             taken: 0,
         };
     }
@@ -59,7 +57,7 @@ pub fn read(bytes: &[u8]) -> Reading
     let taken = middle + length2;
     if bytes.len() < taken {
         return Reading::Refused {
-            number: TOO_SHORT,
+            number: SHORT_RECORD,
             taken: 0,
         };
     }
@@ -117,7 +115,7 @@ pub fn pack(
     }
     let length = HEAD_LENGTH + path1.len() + path2.len();
     if destination.len() < length {
-        return Packing::Refused(NO_ROOM);
+        return Packing::Refused(SHORT_DESTINATION);
     }
     write_record(numbers, path1, path2, destination);
     Packing::Length(length)

@@ -4,6 +4,7 @@ use mathlib.Core.List.{List, [], _∷_}
 use Prim.Native.Nat.{ℕ, _+_, _*_}
 use Rattle.model.specs.Tables.{Entry, Hold}
 use Rattle.model.specs.Words.{pack-entry, unpack-entry, pack-hold, unpack-hold}
+use Rattle.rows.specs.declared.Block.{Block}
 use Rattle.rows.specs.declared.EntryRow.{EntryRow}
 use Rattle.rows.specs.declared.HoldRow.{HoldRow}
 use Rattle.rows.specs.Blocks.{place-of}
@@ -14,10 +15,12 @@ entry-of e = record { place = place-of (e .directory) (e .name); node = e .node 
 unfoldable pub hold-of : HoldRow → Hold
 hold-of h = record { place = place-of (h .directory) (h .name); process = h .process; role = h .role }
 
--- the words that the code writes
+-- the words that the code writes; those that an entry and a hold begin with have a name of their own
+abbrev pub named-words : ℕ → ℕ → Block → List ℕ
+named-words upper lower b = (upper * 65536 + lower) ∷ b .first ∷ b .second ∷ b .third ∷ b .fourth ∷ []
+
 abbrev pub entry-words : EntryRow → List ℕ
-entry-words e =
-    (e .directory * 65536 + e .node) ∷ e .name .first ∷ e .name .second ∷ e .name .third ∷ e .name .fourth ∷ []
+entry-words e = named-words (e .directory) (e .node) (e .name)
 
 abbrev pub hold-words : HoldRow → List ℕ
 hold-words h =

@@ -1,4 +1,4 @@
-// The lent words read by row and field. This is the only place, with `edits`, that knows where a word of the tables stands.
+// The lent words read by row and field, and where each table, row and field stands in them; `edits`, `shape` and `fresh` take it from here.
 ghost use mathlib.Core.Path.{_≡_};
 ghost use Prim.Native.Nat.{_+_, _*_, _/_, _%_, _≤_, _<_};
 ghost use lib.ListN.{length, getD, take, drop};
@@ -23,6 +23,11 @@ pub const NODE_WIDTH: usize = 17;
 
 pub const HOLD_WIDTH: usize = 6;
 
+// The room for a link's target behind the first word of a node, in words and in bytes.
+pub const TARGET_WORDS: usize = 16;
+
+pub const TARGET_BYTES: usize = 64;
+
 // How many rows each table has.
 pub const ENTRY_ROWS: usize = 512;
 
@@ -31,6 +36,15 @@ pub const NODE_ROWS: usize = 256;
 pub const HOLD_ROWS: usize = 256;
 
 pub const PROCESS_ROWS: usize = 64;
+
+// What one in a field is worth in its word: in the upper half of a pair, in a kind or role, in a target's length, in a count.
+pub const UPPER_UNIT: u32 = 65536;
+
+pub const TOP_UNIT: u32 = 1073741824;
+
+pub const LENGTH_UNIT: u32 = 8388608;
+
+pub const COUNT_UNIT: u32 = 8192;
 
 // The kinds of a node, 0 for a free row.
 pub const FILE: u8 = 1;
@@ -73,37 +87,44 @@ pub struct HoldRow {
 // A link's target: its bytes, filled up with zeros, and how many they are.
 pub struct Target {
     pub length: usize,
-    pub bytes: [u8; 64],
+    pub bytes: [u8; TARGET_BYTES],
 }
 
-pub fn upper_half(word: u32) -> u16
+fn upper_half(word: u32) -> u16
     ensures { λ r. ⌜ r ≡ word / 65536 ⌝ }
 {
-    (word / 65536) as u16
+    (word / UPPER_UNIT) as u16
 }
 
-pub fn lower_half(word: u32) -> u16
+fn lower_half(word: u32) -> u16
     ensures { λ r. ⌜ r ≡ word % 65536 ⌝ }
 {
-    (word % 65536) as u16
+    (word % UPPER_UNIT) as u16
 }
 
 pub fn top_bits(word: u32) -> u8
     ensures { λ r. ⌜ r ≡ word / 1073741824 ⌝ }
 {
-    (word / 1073741824) as u8
+    (word / TOP_UNIT) as u8
 }
 
-pub fn count_bits(word: u32) -> u16
+fn count_bits(word: u32) -> u16
     ensures { λ r. ⌜ r ≡ word / 8192 % 1024 ⌝ }
 {
-    (word / 8192 % 1024) as u16
+    (word / COUNT_UNIT % 1024) as u16
 }
 
 pub fn length_bits(word: u32) -> usize
     ensures { λ r. ⌜ r ≡ word / 8388608 % 128 ⌝ }
 {
-    (word / 8388608 % 128) as usize
+    (word / LENGTH_UNIT % 128) as usize
+}
+
+// A node, or a link of a chain, as a number that rows are counted by.
+pub fn wide(number: u16) -> usize
+    ensures { λ r. ⌜ r ≡ number ⌝ }
+{
+    number as usize
 }
 
 // NAMES
@@ -120,10 +141,10 @@ pub fn block_at(words: &[u32], at: usize) -> Block
     }
 }
 
-fn join_bytes(a: u8, b: u8, c: u8, d: u8) -> u32
-    ensures { λ r. ⌜ r ≡ ((a * 256 + b) * 256 + c) * 256 + d ⌝ }
+fn join_bytes(first: u8, second: u8, third: u8, fourth: u8) -> u32
+    ensures { λ r. ⌜ r ≡ ((first * 256 + second) * 256 + third) * 256 + fourth ⌝ }
 {
-    a as u32 * 16777216 + b as u32 * 65536 + c as u32 * 256 + d as u32
+    first as u32 * 16777216 + second as u32 * 65536 + third as u32 * 256 + fourth as u32
 }
 
 // Byte k of the `count` bytes from `from` on, 0 behind them.
@@ -219,7 +240,7 @@ pub fn count_in(words: &[u32], row: usize) -> u16
     count_bits(words[NODES_START + row * NODE_WIDTH])
 }
 
-pub fn target_length_in(words: &[u32], row: usize) -> usize
+fn target_length_in(words: &[u32], row: usize) -> usize
     requires { ⌜ (Stands (now words)) × (row < 256) ⌝ }
     ensures { λ r. ⌜ r ≡ length (node-row (now (words .entry)) row .target) ⌝ }
 {
@@ -234,13 +255,13 @@ fn byte_of(word: u32, place: u32) -> u8
 }
 
 // The bytes of the 16 words from `at` on.
-pub fn bytes_at(words: &[u32], at: usize) -> [u8; 64]
+pub fn bytes_at(words: &[u32], at: usize) -> [u8; TARGET_BYTES]
     requires { ⌜ at + 16 ≤ length (now words) ⌝ }
     ensures { λ r. ⌜ r ≡ bytes (take 16 (drop at (now (words .entry)))) ⌝ }
 {
-    let mut out = [0u8; 64];
+    let mut out = [0u8; TARGET_BYTES];
     let mut k = 0;
-    while k < 16 {
+    while k < TARGET_WORDS {
         let word = words[at + k];
         out[k * 4] = byte_of(word, 16777216);
         out[k * 4 + 1] = byte_of(word, 65536);
@@ -267,28 +288,28 @@ pub fn node_kind(words: &[u32], node: u16) -> u8
     requires { ⌜ Stands (now words) ⌝ }
     ensures { λ r. ⌜ r ≡ node-at (unpack (now (words .entry)) .nodes) node .kind ⌝ }
 {
-    let n = node as usize;
-    if n == 0 {
+    let number = node as usize;
+    if number == 0 {
         return 0;
     }
-    if n > 256 {
+    if number > NODE_ROWS {
         return 0;
     }
-    kind_in(words, n - 1)
+    kind_in(words, number - 1)
 }
 
 pub fn node_count(words: &[u32], node: u16) -> u16
     requires { ⌜ Stands (now words) ⌝ }
     ensures { λ r. ⌜ r ≡ node-at (unpack (now (words .entry)) .nodes) node .count ⌝ }
 {
-    let n = node as usize;
-    if n == 0 {
+    let number = node as usize;
+    if number == 0 {
         return 0;
     }
-    if n > 256 {
+    if number > NODE_ROWS {
         return 0;
     }
-    count_in(words, n - 1)
+    count_in(words, number - 1)
 }
 
 // HOLDS

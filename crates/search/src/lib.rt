@@ -13,7 +13,9 @@ ghost use Rattle.rows.specs.Rows.{hold-of};
 ghost use Rattle.rows.specs.Stands.{Stands, entry-row, hold-row};
 use rows::Block;
 use rows::ENTRY_ROWS;
+use rows::HOLD_ROWS;
 use rows::HoldRow;
+use rows::NODE_ROWS;
 use rows::PROCESS_ROWS;
 use rows::entry_directory;
 use rows::entry_name;
@@ -33,14 +35,14 @@ fn find_process(words: &[u32], process: u16) -> usize
     requires { ⌜ Stands (now words) ⌝ }
     ensures { λ r. ⌜ r ≡ first (is-process process) 0 (unpack (now (words .entry)) .processes) ⌝ }
 {
-    let mut i = 0;
-    while i < PROCESS_ROWS {
-        if process_number(words, i) == process {
-            return i;
+    let mut row = 0;
+    while row < PROCESS_ROWS {
+        if process_number(words, row) == process {
+            return row;
         }
-        i += 1;
+        row += 1;
     }
-    i
+    row
 }
 
 pub fn is_listed(words: &[u32], process: u16) -> bool
@@ -103,29 +105,29 @@ pub fn hold_is_on(words: &[u32], row: usize, directory: u16, name: Block) -> boo
 }
 
 // Whether the hold of a row is this one.
-pub fn hold_is(words: &[u32], row: usize, h: HoldRow) -> bool
-    requires { ⌜ (Stands (now words)) × ((row < 256) × (Named (h .name))) ⌝ }
-    ensures { λ r. ⌜ r ≡ same-hold (hold-of h) (hold-row (now (words .entry)) row) ⌝ }
+fn hold_is(words: &[u32], row: usize, hold: HoldRow) -> bool
+    requires { ⌜ (Stands (now words)) × ((row < 256) × (Named (hold .name))) ⌝ }
+    ensures { λ r. ⌜ r ≡ same-hold (hold-of hold) (hold-row (now (words .entry)) row) ⌝ }
 {
-    if h.process != hold_process(words, row) {
+    if hold.process != hold_process(words, row) {
         return false;
     }
-    if h.role != hold_role(words, row) {
+    if hold.role != hold_role(words, row) {
         return false;
     }
-    if h.directory != hold_directory(words, row) {
+    if hold.directory != hold_directory(words, row) {
         return false;
     }
-    same_blocks(h.name, hold_name(words, row))
+    same_blocks(hold.name, hold_name(words, row))
 }
 
-pub fn has_hold(words: &[u32], h: HoldRow) -> bool
-    requires { ⌜ (Stands (now words)) × (Named (h .name)) ⌝ }
-    ensures { λ r. ⌜ r ≡ any (same-hold (hold-of h)) (unpack (now (words .entry)) .holds) ⌝ }
+pub fn has_hold(words: &[u32], hold: HoldRow) -> bool
+    requires { ⌜ (Stands (now words)) × (Named (hold .name)) ⌝ }
+    ensures { λ r. ⌜ r ≡ any (same-hold (hold-of hold)) (unpack (now (words .entry)) .holds) ⌝ }
 {
     let mut i = 0;
-    while i < 256 {
-        if hold_is(words, i, h) {
+    while i < HOLD_ROWS {
+        if hold_is(words, i, hold) {
             return true;
         }
         i += 1;
@@ -137,15 +139,15 @@ pub fn free_hold_rows(words: &[u32]) -> usize
     requires { ⌜ Stands (now words) ⌝ }
     ensures { λ r. ⌜ r ≡ count free-hold (unpack (now (words .entry)) .holds) ⌝ }
 {
-    let mut n: usize = 0;
+    let mut free: usize = 0;
     let mut i = 0;
-    while i < 256 {
+    while i < HOLD_ROWS {
         if hold_directory(words, i) == 0 {
-            n += 1;
+            free += 1;
         }
         i += 1;
     }
-    n
+    free
 }
 
 // THE LOWEST FREE ROW of each table; the number of its rows where none is free
@@ -154,54 +156,54 @@ pub fn free_entry_row(words: &[u32]) -> usize
     requires { ⌜ Stands (now words) ⌝ }
     ensures { λ r. ⌜ r ≡ first free-entry 0 (unpack (now (words .entry)) .entries) ⌝ }
 {
-    let mut i = 0;
-    while i < ENTRY_ROWS {
-        if entry_directory(words, i) == 0 {
-            return i;
+    let mut row = 0;
+    while row < ENTRY_ROWS {
+        if entry_directory(words, row) == 0 {
+            return row;
         }
-        i += 1;
+        row += 1;
     }
-    i
+    row
 }
 
 pub fn free_node_row(words: &[u32]) -> usize
     requires { ⌜ Stands (now words) ⌝ }
     ensures { λ r. ⌜ r ≡ first free-node 0 (unpack (now (words .entry)) .nodes) ⌝ }
 {
-    let mut i = 0;
-    while i < 256 {
-        if kind_in(words, i) == 0 {
-            return i;
+    let mut row = 0;
+    while row < NODE_ROWS {
+        if kind_in(words, row) == 0 {
+            return row;
         }
-        i += 1;
+        row += 1;
     }
-    i
+    row
 }
 
 pub fn free_hold_row(words: &[u32]) -> usize
     requires { ⌜ Stands (now words) ⌝ }
     ensures { λ r. ⌜ r ≡ first free-hold 0 (unpack (now (words .entry)) .holds) ⌝ }
 {
-    let mut i = 0;
-    while i < 256 {
-        if hold_directory(words, i) == 0 {
-            return i;
+    let mut row = 0;
+    while row < HOLD_ROWS {
+        if hold_directory(words, row) == 0 {
+            return row;
         }
-        i += 1;
+        row += 1;
     }
-    i
+    row
 }
 
 pub fn free_process_row(words: &[u32]) -> usize
     requires { ⌜ Stands (now words) ⌝ }
     ensures { λ r. ⌜ r ≡ first free-process 0 (unpack (now (words .entry)) .processes) ⌝ }
 {
-    let mut i = 0;
-    while i < PROCESS_ROWS {
-        if process_number(words, i) == 0 {
-            return i;
+    let mut row = 0;
+    while row < PROCESS_ROWS {
+        if process_number(words, row) == 0 {
+            return row;
         }
-        i += 1;
+        row += 1;
     }
-    i
+    row
 }

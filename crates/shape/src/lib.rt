@@ -11,12 +11,24 @@ ghost use Rattle.shape.specs.Shaped.{entry-shaped, node-shaped, hold-sha
 use names::is_good_name;
 use paths::valid_target;
 use rows::Block;
+use rows::COUNT_UNIT;
+use rows::ELEMENT;
+use rows::END;
+use rows::ENTRY_ROWS;
 use rows::ENTRY_WIDTH;
+use rows::HOLD_ROWS;
 use rows::HOLD_WIDTH;
 use rows::HOLDS_START;
+use rows::LINK;
+use rows::NODE_ROWS;
 use rows::NODE_WIDTH;
 use rows::NODES_START;
+use rows::PROCESS_ROWS;
 use rows::PROCESSES_START;
+use rows::TARGET_BYTES;
+use rows::TARGET_WORDS;
+use rows::TOP_UNIT;
+use rows::UPPER_UNIT;
 use rows::WORD_COUNT;
 use rows::block_at;
 use rows::bytes_at;
@@ -24,9 +36,9 @@ use rows::length_bits;
 use rows::top_bits;
 
 // The words of the two roles, in the top bits.
-const END_ROLE: u32 = 1073741824;
+const END_ROLE: u32 = END as u32 * TOP_UNIT;
 
-const ELEMENT_ROLE: u32 = 2147483648;
+const ELEMENT_ROLE: u32 = ELEMENT as u32 * TOP_UNIT;
 
 // Whether there are 8,512 words, each row just the words of what it holds, with valid names, roles and targets.
 pub fn is_shaped(words: &[u32]) -> bool
@@ -52,7 +64,7 @@ fn entries_shaped(words: &[u32]) -> bool
     ensures { λ r. ⌜ r ≡ all entry-shaped (pieces 512 5 (now (words .entry))) ⌝ }
 {
     let mut row = 0;
-    while row < 512 {
+    while row < ENTRY_ROWS {
         if !entry_shaped(words, row) {
             return false;
         }
@@ -66,7 +78,7 @@ fn nodes_shaped(words: &[u32]) -> bool
     ensures { λ r. ⌜ r ≡ all node-shaped (pieces 256 17 (drop 2560 (now (words .entry)))) ⌝ }
 {
     let mut row = 0;
-    while row < 256 {
+    while row < NODE_ROWS {
         if !node_shaped(words, row) {
             return false;
         }
@@ -80,7 +92,7 @@ fn holds_shaped(words: &[u32]) -> bool
     ensures { λ r. ⌜ r ≡ all hold-shaped (pieces 256 6 (drop 6912 (now (words .entry)))) ⌝ }
 {
     let mut row = 0;
-    while row < 256 {
+    while row < HOLD_ROWS {
         if !hold_shaped(words, row) {
             return false;
         }
@@ -94,7 +106,7 @@ fn processes_shaped(words: &[u32]) -> bool
     ensures { λ r. ⌜ r ≡ all process-shaped (pieces 64 1 (drop 8448 (now (words .entry)))) ⌝ }
 {
     let mut row = 0;
-    while row < 64 {
+    while row < PROCESS_ROWS {
         if !process_shaped(words[PROCESSES_START + row]) {
             return false;
         }
@@ -109,7 +121,7 @@ fn entry_shaped(words: &[u32], row: usize) -> bool
 {
     let head = words[row * ENTRY_WIDTH];
     let name = block_at(words, row * ENTRY_WIDTH + 1);
-    if head < 65536 {
+    if head < UPPER_UNIT {
         return is_blank(head, name, 0);
     }
     is_good_name(name)
@@ -122,7 +134,7 @@ fn hold_shaped(words: &[u32], row: usize) -> bool
     let head = words[HOLDS_START + row * HOLD_WIDTH];
     let name = block_at(words, HOLDS_START + row * HOLD_WIDTH + 1);
     let role = words[HOLDS_START + row * HOLD_WIDTH + 5];
-    if head < 65536 {
+    if head < UPPER_UNIT {
         return is_blank(head, name, role);
     }
     if !is_role(role) {
@@ -134,7 +146,7 @@ fn hold_shaped(words: &[u32], row: usize) -> bool
 fn process_shaped(word: u32) -> bool
     ensures { λ r. ⌜ r ≡ process-shaped (word ∷ []) ⌝ }
 {
-    if word < 65536 {
+    if word < UPPER_UNIT {
         return word == 0;
     }
     true
@@ -174,14 +186,14 @@ fn node_shaped(words: &[u32], row: usize) -> bool
         }
         return all_zeros(words, NODES_START + row * NODE_WIDTH + 1);
     }
-    if head % 8192 != 0 {
+    if head % COUNT_UNIT != 0 {
         return false;
     }
-    let count = length_bits(head);
-    if kind == 3 {
-        return link_shaped(words, NODES_START + row * NODE_WIDTH + 1, count);
+    let length = length_bits(head);
+    if kind == LINK {
+        return link_shaped(words, NODES_START + row * NODE_WIDTH + 1, length);
     }
-    if count != 0 {
+    if length != 0 {
         return false;
     }
     all_zeros(words, NODES_START + row * NODE_WIDTH + 1)
@@ -194,33 +206,34 @@ fn all_zeros(words: &[u32], at: usize) -> bool
 {
     let mut joined: u32 = 0;
     let mut k = 0;
-    while k < 16 {
+    while k < TARGET_WORDS {
         joined = joined | words[at + k];
         k += 1;
     }
     joined == 0
 }
 
-fn link_shaped(words: &[u32], at: usize, count: usize) -> bool
+// Whether the 16 words from `at` on are those of a valid target of `size` bytes.
+fn link_shaped(words: &[u32], at: usize, size: usize) -> bool
     requires { ⌜ at + 16 ≤ length (now words) ⌝ }
-    ensures { λ r. ⌜ r ≡ link-fits (bytes (take 16 (drop at (now (words .entry))))) count ⌝ }
+    ensures { λ r. ⌜ r ≡ link-fits (bytes (take 16 (drop at (now (words .entry))))) size ⌝ }
 {
-    if count > 64 {
+    if size > TARGET_BYTES {
         return false;
     }
     let target = bytes_at(words, at);
-    if !zeros_behind(&target, count) {
+    if !zeros_behind(&target, size) {
         return false;
     }
-    valid_target(&target[..count])
+    valid_target(&target[..size])
 }
 
-fn zeros_behind(target: &[u8; 64], count: usize) -> bool
-    requires { ⌜ (count ≤ 64) × (length (now target) ≡ 64) ⌝ }
-    ensures { λ r. ⌜ r ≡ zeros (drop count (now (target .entry))) ⌝ }
+fn zeros_behind(target: &[u8; TARGET_BYTES], size: usize) -> bool
+    requires { ⌜ (size ≤ 64) × (length (now target) ≡ 64) ⌝ }
+    ensures { λ r. ⌜ r ≡ zeros (drop size (now (target .entry))) ⌝ }
 {
-    let mut i = count;
-    while i < 64 {
+    let mut i = size;
+    while i < TARGET_BYTES {
         if target[i] != 0 {
             return false;
         }

@@ -11,8 +11,12 @@ use hold_pairs::ends_agree;
 use hold_pairs::holds_apart;
 use hold_rules::holds_placed;
 use hold_rules::used_hold_rows;
+use index::BUCKETS;
 use index::index_entries;
+use process_index::PROCESS_BUCKETS;
 use process_index::index_processes;
+use rows::ENTRY_ROWS;
+use rows::PROCESS_ROWS;
 use shape::is_shaped;
 use tree_rules::tree_right;
 
@@ -20,13 +24,17 @@ use tree_rules::tree_right;
 pub fn sound(words: &[u32]) -> bool
     ensures { λ r. ⌜ r ≡ sound (now (words .entry)) ⌝ }
 {
-    let mut heads = [0u16; 1021];
-    let mut next = [0u16; 512];
+    let mut heads = [0u16; BUCKETS];
+    let mut next = [0u16; ENTRY_ROWS];
     sound_and_index(words, &mut heads, &mut next)
 }
 
 // The same, and where the words are sound the index of their entries, for the lookups of the same call.
-pub fn sound_and_index(words: &[u32], heads: &mut [u16; 1021], next: &mut [u16; 512]) -> bool
+pub fn sound_and_index(
+    words: &[u32],
+    heads: &mut [u16; BUCKETS],
+    next: &mut [u16; ENTRY_ROWS],
+) -> bool
     requires { ⌜ (now heads ≡ replicate 1021 0) × (now next ≡ replicate 512 0) ⌝ }
     ensures { λ r. ⌜ (r ≡ sound (now (words .entry))) × (r ≡ true → Indexed (now (words .entry)) (now (heads .exit)) (now (next .exit))) ⌝ }
 {
@@ -55,8 +63,8 @@ fn keeps_hold_rules(words: &[u32]) -> bool
     requires { ⌜ Stands (now words) ⌝ }
     ensures { λ r. ⌜ r ≡ hold-rules (unpack (now (words .entry))) ⌝ }
 {
-    let mut heads = [0u16; 127];
-    let mut next = [0u16; 64];
+    let mut heads = [0u16; PROCESS_BUCKETS];
+    let mut next = [0u16; PROCESS_ROWS];
     if !index_processes(words, &mut heads, &mut next) {
         return false;
     }

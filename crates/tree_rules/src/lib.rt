@@ -9,12 +9,20 @@ ghost use Rattle.model.specs.Sound.{entries-in-directories, entries-lead-to-nod
 ghost use Rattle.model.specs.Words.{unpack};
 ghost use Rattle.rows.specs.Stands.{Stands, entry-row, node-row};
 ghost use Rattle.tree_rules.specs.Tallied.{Tallied};
+use rows::DIRECTORY;
+use rows::ENTRY_ROWS;
+use rows::NODE_ROWS;
+use rows::ROOT;
 use rows::count_in;
 use rows::entry_directory;
 use rows::entry_node;
 use rows::kind_in;
 use rows::node_count;
 use rows::node_kind;
+use rows::wide;
+
+// A count for each node by its number, and one that stays 0 for none.
+const COUNTS: usize = NODE_ROWS + 1;
 
 // Whether each entry is in a directory and leads to a node, and the counts of the nodes are right.
 pub fn tree_right(words: &[u32]) -> bool
@@ -27,7 +35,7 @@ pub fn tree_right(words: &[u32]) -> bool
     if !first_right(words) {
         return false;
     }
-    let mut counts = [0u16; 257];
+    let mut counts = [0u16; COUNTS];
     tally(words, &mut counts);
     if !all_counts_right(words, &counts) {
         return false;
@@ -40,7 +48,7 @@ fn entries_lead(words: &[u32]) -> bool
     ensures { λ r. ⌜ r ≡ (entries-in-directories (unpack (now (words .entry))) && entries-lead-to-nodes (unpack (now (words .entry)))) ⌝ }
 {
     let mut row = 0;
-    while row < 512 {
+    while row < ENTRY_ROWS {
         if !entry_leads(words, row) {
             return false;
         }
@@ -57,7 +65,7 @@ fn entry_leads(words: &[u32], row: usize) -> bool
     if directory == 0 {
         return true;
     }
-    if node_kind(words, directory) != 2 {
+    if node_kind(words, directory) != DIRECTORY {
         return false;
     }
     node_kind(words, entry_node(words, row)) != 0
@@ -67,35 +75,29 @@ fn first_right(words: &[u32]) -> bool
     requires { ⌜ Stands (now words) ⌝ }
     ensures { λ r. ⌜ r ≡ first-node-right (unpack (now (words .entry))) ⌝ }
 {
-    if node_kind(words, 1) != 2 {
+    if node_kind(words, ROOT) != DIRECTORY {
         return false;
     }
-    node_count(words, 1) == 0
+    node_count(words, ROOT) == 0
 }
 
-fn wide(x: u16) -> usize
-    ensures { λ r. ⌜ r ≡ x ⌝ }
+fn one_more(count: u16) -> u16
+    requires { ⌜ count < 512 ⌝ }
+    ensures { λ r. ⌜ r ≡ count + 1 ⌝ }
 {
-    x as usize
+    count + 1
 }
 
-fn one_more(x: u16) -> u16
-    requires { ⌜ x < 512 ⌝ }
-    ensures { λ r. ⌜ r ≡ x + 1 ⌝ }
-{
-    x + 1
-}
-
-fn tally(words: &[u32], counts: &mut [u16; 257])
+fn tally(words: &[u32], counts: &mut [u16; COUNTS])
     requires { ⌜ (Stands (now words)) × (now counts ≡ replicate 257 0) ⌝ }
     ensures { λ _. ⌜ Tallied (now (words .entry)) (now (counts .exit)) ⌝ }
 {
     let mut row = 0;
-    while row < 512 {
+    while row < ENTRY_ROWS {
         let node = wide(entry_node(words, row));
         // the many free rows lead to no node, and would all wait for the one count
         if node != 0 {
-            if node < 257 {
+            if node < COUNTS {
                 counts[node] = one_more(counts[node]);
             }
         }
@@ -103,12 +105,12 @@ fn tally(words: &[u32], counts: &mut [u16; 257])
     }
 }
 
-fn all_counts_right(words: &[u32], counts: &[u16; 257]) -> bool
+fn all_counts_right(words: &[u32], counts: &[u16; COUNTS]) -> bool
     requires { ⌜ (Stands (now words)) × (Tallied (now words) (now counts)) ⌝ }
     ensures { λ r. ⌜ r ≡ counts-right (unpack (now (words .entry))) ⌝ }
 {
     let mut row = 0;
-    while row < 256 {
+    while row < NODE_ROWS {
         if !count_right(words, counts, row) {
             return false;
         }
@@ -117,7 +119,7 @@ fn all_counts_right(words: &[u32], counts: &[u16; 257]) -> bool
     true
 }
 
-fn count_right(words: &[u32], counts: &[u16; 257], row: usize) -> bool
+fn count_right(words: &[u32], counts: &[u16; COUNTS], row: usize) -> bool
     requires { ⌜ (Stands (now words)) × ((Tallied (now words) (now counts)) × (row < 256)) ⌝ }
     ensures { λ r. ⌜ r ≡ (free-node (node-row (now (words .entry)) row) || eqb (node-row (now (words .entry)) row .count) (leading-to (unpack (now (words .entry)) .entries) (1 + row))) ⌝ }
 {
@@ -132,7 +134,7 @@ fn all_counts_fit(words: &[u32]) -> bool
     ensures { λ r. ⌜ r ≡ counts-fit (unpack (now (words .entry))) ⌝ }
 {
     let mut row = 0;
-    while row < 256 {
+    while row < NODE_ROWS {
         if !count_fits(words, row) {
             return false;
         }
@@ -152,7 +154,7 @@ fn count_fits(words: &[u32], row: usize) -> bool
     if row == 0 {
         return true;
     }
-    if kind == 2 {
+    if kind == DIRECTORY {
         return count_in(words, row) == 1;
     }
     1 <= count_in(words, row)

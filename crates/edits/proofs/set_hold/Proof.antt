@@ -20,7 +20,7 @@ same-length : tie.Need-same-length
 same-length c = search needs
 
 returns : tie.Need-returns
-returns c = set-hold-is (c .before .before .before .before .before .pre .0) (c .before .before .before .before .before .args .row) (c .before .before .before .before .before .pre .1 .0) (c .before .before .before .before .before .args .h) (c .before .before .before .before .before .pre .1 .1 .1) (c .before .before .put-hold .ensures)
+returns c = set-hold-is (c .before .before .before .before .before .pre .0) (c .before .before .before .before .before .args .row) (c .before .before .before .before .before .pre .1 .0) (c .before .before .before .before .before .args .hold) (c .before .before .before .before .before .pre .1 .1 .1) (c .before .before .put-hold .ensures)
 
 pub set-hold-spec : {M : Type 1} → statement M
 set-hold-spec =

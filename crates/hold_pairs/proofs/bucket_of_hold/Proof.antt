@@ -1,7 +1,7 @@
 -- `hold_pairs::bucket_of_hold` meets its contract. Assumes nothing.
 use mathlib.Core.Path.{ap₂, _∙_}
 use Prim.Native.Nat.{_+_, _*_, _%_}
-use Rattle.hold_pairs.specs.Chains.{sum-of}
+use Rattle.index.specs.Indexed.{sum-of}
 use borrow.Author.Needs.{needs}
 use Rattle.hold_pairs.proofs.bucket_of_hold.Statement.{statement}
 use Rattle.hold_pairs.proofs.bucket_of_hold.Tie as tie
@@ -27,6 +27,9 @@ mul-result c = search needs
 add-result : tie.Need-add-result
 add-result c = search needs
 
+rem-result : tie.Need-rem-result
+rem-result c = search needs
+
 returns : tie.Need-returns
 returns c = let s = c .before .sum-of .ensures .0 ∙ ap₂ sum-of (c .before .before .before .hold-directory .ensures) (c .before .before .hold-name .ensures) in (ap₂ (λ n p. (n + p * 401) % 509) s (c .hold-process .ensures), search needs)
 
@@ -41,4 +44,5 @@ bucket-of-hold-spec =
     cast-result
     mul-result
     add-result
+    rem-result
     returns)

@@ -1,6 +1,6 @@
 -- `hold_pairs::bucket_of_place` meets its contract. Assumes nothing.
 use mathlib.Core.Path.{ap, ap₂, _∙_}
-use Rattle.hold_pairs.specs.Chains.{sum-of}
+use Rattle.index.specs.Indexed.{sum-of}
 use Prim.Native.Nat.{_%_}
 use borrow.Author.Needs.{needs}
 use Rattle.hold_pairs.proofs.bucket_of_place.Statement.{statement}
@@ -15,6 +15,9 @@ hold-name-requires c κs = search needs
 sum-of-requires : tie.Need-sum-of-requires
 sum-of-requires c κs = search needs
 
+rem-result : tie.Need-rem-result
+rem-result c = search needs
+
 returns : tie.Need-returns
 returns c = let s = c .sum-of .ensures .0 ∙ ap₂ sum-of (c .before .before .hold-directory .ensures) (c .before .hold-name .ensures) in (ap (λ n. n % 509) s, search needs)
 
@@ -25,4 +28,5 @@ bucket-of-place-spec =
     hold-directory-requires
     hold-name-requires
     sum-of-requires
+    rem-result
     returns)

@@ -3,15 +3,8 @@ use borrow.Author.Needs.{needs}
 use Rattle.process_index.proofs.bucket_of.Statement.{statement}
 use Rattle.process_index.proofs.bucket_of.Tie as tie
 
-cast-result : tie.Need-cast-result
-cast-result c = search needs
-
 returns : tie.Need-returns
 returns c = search needs
 
 pub bucket-of-spec : {M : Type 1} → statement M
-bucket-of-spec =
-    tie.close
-    (tie.spec
-    cast-result
-    returns)
+bucket-of-spec = tie.close (tie.spec returns)

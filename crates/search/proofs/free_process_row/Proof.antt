@@ -15,10 +15,10 @@ use Rattle.search.proofs.free_process_row.Statement.{statement}
 use Rattle.search.proofs.free_process_row.Tie as tie
 
 abbrev Inv-loop : tie.InvT-loop
-Inv-loop words i₀ i = (i ≤ 64) × (first free-process i (drop i (unpack words .processes)) ≡ first free-process 0 (unpack words .processes))
+Inv-loop words row₀ row = (row ≤ 64) × (first free-process row (drop row (unpack words .processes)) ≡ first free-process 0 (unpack words .processes))
 
 abbrev μ-loop : tie.MeasureT-loop
-μ-loop words i₀ i = 64 - i
+μ-loop words row₀ row = 64 - row
 
 loop-holds : tie.Need-loop-holds Inv-loop μ-loop
 loop-holds c = (search needs, refl)
@@ -28,20 +28,20 @@ process-number-requires c κs = (c .before .before .before .pre, omega arith)
 
 returns : tie.Need-returns Inv-loop μ-loop
 unfolding free-process
-returns c = first-found free-process no-process (unpack (c .before .before .before .before .before .args .words .now) .processes) (c .before .before .before .loop .i) (omega (arith, processes-full (c .before .before .before .before .before .args .words .now))) (eq-eqb (process-row (c .before .before .before .before .before .args .words .now) (c .before .before .before .loop .i) .number) 0 (sym (c .before .process-number .ensures) ∙ c .if1 .taken)) (c .before .before .before .loop .inv .1)
+returns c = first-found free-process no-process (unpack (c .before .before .before .before .before .args .words .now) .processes) (c .before .before .before .loop .row) (omega (arith, processes-full (c .before .before .before .before .before .args .words .now))) (eq-eqb (process-row (c .before .before .before .before .before .args .words .now) (c .before .before .before .loop .row) .number) 0 (sym (c .before .process-number .ensures) ∙ c .if1 .taken)) (c .before .before .before .loop .inv .1)
 
-add-i : tie.Need-add-i Inv-loop μ-loop
-add-i c = omega arith
+add-row : tie.Need-add-row Inv-loop μ-loop
+add-row c = omega arith
 
 loop-less : tie.Need-loop-less Inv-loop μ-loop
 loop-less c = omega arith
 
 loop-again : tie.Need-loop-again Inv-loop μ-loop
 unfolding free-process
-loop-again c = (omega arith, first-onward free-process no-process (unpack (c .before .before .before .before .before .args .words .now) .processes) (c .before .before .before .loop .i) (omega (arith, processes-full (c .before .before .before .before .before .args .words .now))) (ne-eqb (process-row (c .before .before .before .before .before .args .words .now) (c .before .before .before .loop .i) .number) 0 (λ e. c .if1 .left (c .before .process-number .ensures ∙ e))) (c .before .before .before .loop .inv .1))
+loop-again c = (omega arith, first-onward free-process no-process (unpack (c .before .before .before .before .before .args .words .now) .processes) (c .before .before .before .loop .row) (omega (arith, processes-full (c .before .before .before .before .before .args .words .now))) (ne-eqb (process-row (c .before .before .before .before .before .args .words .now) (c .before .before .before .loop .row) .number) 0 (λ e. c .if1 .left (c .before .process-number .ensures ∙ e))) (c .before .before .before .loop .inv .1))
 
 returns-2 : tie.Need-returns-2 Inv-loop μ-loop
-returns-2 c = first-nowhere free-process no-process (unpack (c .before .before .before .args .words .now) .processes) (c .before .loop .i) (omega (arith, processes-full (c .before .before .before .args .words .now))) (c .before .loop .inv .1)
+returns-2 c = first-nowhere free-process no-process (unpack (c .before .before .before .args .words .now) .processes) (c .before .loop .row) (omega (arith, processes-full (c .before .before .before .args .words .now))) (c .before .loop .inv .1)
 
 pub free-process-row-spec : {M : Type 1} → statement M
 free-process-row-spec =
@@ -52,7 +52,7 @@ free-process-row-spec =
     loop-holds
     process-number-requires
     returns
-    add-i
+    add-row
     loop-less
     loop-again
     returns-2)

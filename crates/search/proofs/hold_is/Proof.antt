@@ -10,19 +10,19 @@ hold-process-requires : tie.Need-hold-process-requires
 hold-process-requires c κs = search needs
 
 returns : tie.Need-returns
-returns c = process-differs (c .before .before .before .before .args .h) (hold-row (c .before .before .before .before .args .words .now) (c .before .before .before .before .args .row)) (c .before .before .hold-process .ensures) (c .if1 .taken)
+returns c = process-differs (c .before .before .before .before .args .hold) (hold-row (c .before .before .before .before .args .words .now) (c .before .before .before .before .args .row)) (c .before .before .hold-process .ensures) (c .if1 .taken)
 
 hold-role-requires : tie.Need-hold-role-requires
 hold-role-requires c κs = search needs
 
 returns-2 : tie.Need-returns-2
-returns-2 c = role-differs (c .before .before .before .before .before .before .before .args .h) (hold-row (c .before .before .before .before .before .before .before .args .words .now) (c .before .before .before .before .before .before .before .args .row)) (c .before .before .before .before .before .hold-process .ensures) (c .before .before .before .if1 .left) (c .before .before .hold-role .ensures) (c .if2 .taken)
+returns-2 c = role-differs (c .before .before .before .before .before .before .before .args .hold) (hold-row (c .before .before .before .before .before .before .before .args .words .now) (c .before .before .before .before .before .before .before .args .row)) (c .before .before .before .before .before .hold-process .ensures) (c .before .before .before .if1 .left) (c .before .before .hold-role .ensures) (c .if2 .taken)
 
 hold-directory-requires : tie.Need-hold-directory-requires
 hold-directory-requires c κs = search needs
 
 returns-3 : tie.Need-returns-3
-returns-3 c = directory-differs (c .before .before .before .before .before .before .before .before .before .before .args .h) (hold-row (c .before .before .before .before .before .before .before .before .before .before .args .words .now) (c .before .before .before .before .before .before .before .before .before .before .args .row)) (c .before .before .before .before .before .before .before .before .hold-process .ensures) (c .before .before .before .before .before .before .if1 .left) (c .before .before .before .before .before .hold-role .ensures) (c .before .before .before .if2 .left) (c .before .before .hold-directory .ensures) (c .if3 .taken)
+returns-3 c = directory-differs (c .before .before .before .before .before .before .before .before .before .before .args .hold) (hold-row (c .before .before .before .before .before .before .before .before .before .before .args .words .now) (c .before .before .before .before .before .before .before .before .before .before .args .row)) (c .before .before .before .before .before .before .before .before .hold-process .ensures) (c .before .before .before .before .before .before .if1 .left) (c .before .before .before .before .before .hold-role .ensures) (c .before .before .before .if2 .left) (c .before .before .hold-directory .ensures) (c .if3 .taken)
 
 hold-name-requires : tie.Need-hold-name-requires
 hold-name-requires c κs = search needs
@@ -31,7 +31,7 @@ same-blocks-requires : tie.Need-same-blocks-requires
 same-blocks-requires c κs = search needs
 
 returns-4 : tie.Need-returns-4
-returns-4 c = hold-name-decides (c .before .before .before .before .before .before .before .before .before .before .before .before .args .h) (hold-row (c .before .before .before .before .before .before .before .before .before .before .before .before .args .words .now) (c .before .before .before .before .before .before .before .before .before .before .before .before .args .row)) (c .before .before .before .before .before .before .before .before .before .before .hold-process .ensures) (c .before .before .before .before .before .before .before .before .if1 .left) (c .before .before .before .before .before .before .before .hold-role .ensures) (c .before .before .before .before .before .if2 .left) (hold-row-fits (c .before .before .before .before .before .before .before .before .before .before .before .before .args .words .now) (c .before .before .before .before .before .before .before .before .before .before .before .before .args .row) .name) (c .before .before .before .before .before .before .before .before .before .before .before .before .pre .1 .1) (c .before .before .before .before .hold-directory .ensures) (c .before .before .if3 .left) (c .before .hold-name .ensures) (c .same-blocks .ensures)
+returns-4 c = hold-name-decides (c .before .before .before .before .before .before .before .before .before .before .before .before .args .hold) (hold-row (c .before .before .before .before .before .before .before .before .before .before .before .before .args .words .now) (c .before .before .before .before .before .before .before .before .before .before .before .before .args .row)) (c .before .before .before .before .before .before .before .before .before .before .hold-process .ensures) (c .before .before .before .before .before .before .before .before .if1 .left) (c .before .before .before .before .before .before .before .hold-role .ensures) (c .before .before .before .before .before .if2 .left) (hold-row-fits (c .before .before .before .before .before .before .before .before .before .before .before .before .args .words .now) (c .before .before .before .before .before .before .before .before .before .before .before .before .args .row) .name) (c .before .before .before .before .before .before .before .before .before .before .before .before .pre .1 .1) (c .before .before .before .before .hold-directory .ensures) (c .before .before .if3 .left) (c .before .hold-name .ensures) (c .same-blocks .ensures)
 
 pub hold-is-spec : {M : Type 1} → statement M
 hold-is-spec =

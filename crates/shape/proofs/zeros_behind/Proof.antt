@@ -12,10 +12,10 @@ use Rattle.shape.proofs.zeros_behind.Statement.{statement}
 use Rattle.shape.proofs.zeros_behind.Tie as tie
 
 abbrev Inv-loop : tie.InvT-loop
-Inv-loop target count i₀ i = (i ≤ 64) × (zeros (drop i target) ≡ zeros (drop count target))
+Inv-loop target size i₀ i = (i ≤ 64) × (zeros (drop i target) ≡ zeros (drop size target))
 
 abbrev μ-loop : tie.MeasureT-loop
-μ-loop target count i₀ i = 64 - i
+μ-loop target size i₀ i = 64 - i
 
 loop-holds : tie.Need-loop-holds Inv-loop μ-loop
 loop-holds c = (c .pre .0, refl)

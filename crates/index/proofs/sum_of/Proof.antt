@@ -1,8 +1,8 @@
--- `hold_pairs::sum_of` meets its contract. Assumes nothing.
-use Rattle.hold_pairs.specs.Chains.{sum-of}
+-- `index::sum_of` meets its contract. Assumes nothing.
+use Rattle.index.specs.Indexed.{sum-of}
 use borrow.Author.Needs.{needs}
-use Rattle.hold_pairs.proofs.sum_of.Statement.{statement}
-use Rattle.hold_pairs.proofs.sum_of.Tie as tie
+use Rattle.index.proofs.sum_of.Statement.{statement}
+use Rattle.index.proofs.sum_of.Tie as tie
 
 mul-result : tie.Need-mul-result
 mul-result c = search needs
