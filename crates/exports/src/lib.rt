@@ -8,6 +8,7 @@ ghost use mathlib.Core.Path.{_≡_};
 ghost use Prim.Native.Nat.{_<_};
 use fresh::Prepared;
 use model::Answer;
+use model::UNSOUND;
 use records::Fields;
 use records::Packing;
 use records::Reading;
@@ -29,15 +30,15 @@ fn told(word: u64, number: u64, taken: u64) -> u64
     taken * 17179869184 + word * 4294967296 + number
 }
 
-fn put_fields(fields: &mut [u32; 6], f: Fields)
-    requires { ⌜ Small f ⌝ }
-    ensures { λ _. ⌜ now (fields .exit) ≡ field-numbers f ⌝ }
+fn put_fields(numbers: &mut [u32; 6], fields: Fields)
+    requires { ⌜ Small fields ⌝ }
+    ensures { λ _. ⌜ now (numbers .exit) ≡ field-numbers fields ⌝ }
 {
-    let path1 = f.path1;
-    let path2 = f.path2;
-    *fields = [
-        f.process as u32,
-        f.argument as u32,
+    let path1 = fields.path1;
+    let path2 = fields.path2;
+    *numbers = [
+        fields.process as u32,
+        fields.argument as u32,
         path1.start as u32,
         path1.length as u32,
         path2.start as u32,
@@ -116,7 +117,7 @@ pub extern "C" fn tickbutton_sound(words: &[u32]) -> u64
     if soundness::sound(words) {
         return told(DONE, 0, 0);
     }
-    told(REFUSED, 1, 0)
+    told(REFUSED, UNSOUND as u64, 0)
 }
 
 // Walks a path over the words, a link at its last name too where that is asked: done with the node that it leads to, 0 for an absence, or

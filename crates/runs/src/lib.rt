@@ -18,15 +18,13 @@ use accepted::taken_of;
 use dispatch::dispatch;
 use index::index_entries;
 use model::Answer;
+use model::SHORT_RECORD;
+use model::UNSOUND;
 use model::Verdict;
 use records::Fields;
 use records::Reading;
 use records::read;
 use soundness::sound_and_index;
-
-const UNSOUND: u8 = 1;
-
-const TOO_SHORT: u8 = 17;
 
 const FIRST_CREATION: u32 = 8;
 
@@ -85,7 +83,7 @@ pub fn serve_tested(
     let found = read(bytes);
     let taken = taken_of(found);
     if is_cut_short(found) {
-        let answer = Answer::Refused(TOO_SHORT);
+        let answer = Answer::Refused(SHORT_RECORD);
         return Verdict { answer, taken };
     }
     let answer = serve_found(words, heads, next, bytes, found, is_sound);
