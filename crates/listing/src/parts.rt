@@ -25,14 +25,7 @@ pub fn list_part(words: &mut [u32], bytes: &[u8], last: bool, place: u64, out: &
             last,
             place,
         };
-        let step = next_line(
-            words,
-            &mut heads,
-            &mut next,
-            rest,
-            setting,
-            &mut out[at..],
-        );
+        let step = next_line(words, &mut heads, &mut next, rest, setting, &mut out[at..]);
         match step {
             Step::Line { taken, length } => {
                 from += taken;
