@@ -1,6 +1,6 @@
--- The calls that walk path 1 first: 4, the walk's own refusal, or the rest behind the walk. Assumes nothing.
-use mathlib.Core.Path.{_≡_}
-use mathlib.Core.Bool.{Bool, false}
+-- The calls that reach the end of path 1 first: 4 or the walk's own refusal, or the rest behind the walk. Assumes nothing.
+use mathlib.Core.Path.{_≡_, refl}
+use mathlib.Core.Bool.{Bool, true, false}
 use mathlib.Core.Logic.{_⊎_}
 use mathlib.Core.List.{List}
 use Prim.Native.Nat.{ℕ}
@@ -19,30 +19,36 @@ use Rattle.records.specs.declared.Fields.{Fields}
 use Rattle.records.specs.Reading.{part-of}
 use Rattle.plans.specs.Plans.{Walk-used}
 use Rattle.calls.specs.Meets.{Meets}
-use Rattle.calls.proofs.Meeting.{passes}
-use Rattle.accepted.specs.Ready.{Ready, Path-in, Walks}
-use Rattle.accepted.proofs.Accepting.{path1-in}
-use Rattle.accepted.proofs.Walking.{answer-named, answer-used, not-refused, walk-passes, walk-refuses}
+use Rattle.calls.proofs.Meeting.{meets-as}
+use Rattle.accepted.specs.Ready.{call-in, reaching, Ready, Walks}
+use Rattle.accepted.proofs.Walking.{answer-named, answer-used, reach-leads, walk-passes, walk-refuses}
 
-pub first-path : {w heads next s : List ℕ} {f : Fields} → Ready w heads next s f → Walks f → Path-in s (f .path1)
-first-path ready walks = path1-in (ready .bytes) (ready .read) walks
+-- a test in front of two pieces of work is one in front of the first
+test-first : (n : ℕ) (b : Bool) (o : Outcome Goal) (rest : Goal → Outcome Change) → ((n when b) >> (o >>= rest)) ≡ (((n when b) >> o) >>= rest)
+unfolding _>>_ _>>=_
+test-first n true o rest = refl
+test-first n false o rest = refl
 
-module _ {w heads next s : List ℕ} {f : Fields} (ready : Ready w heads next s f) (walks : Walks f) (last : Bool) where
-  abbrev First : Outcome Goal
-  First = walk (unpack w .entries) (unpack w .nodes) last (part-of s (f .path1))
-
-  abbrev Asks : (Goal → Outcome Change) → Outcome Change
-  Asks rest = (4 when unlisted (unpack w) (f .process)) >> (First >>= rest)
-
+module _ {w heads next s : List ℕ} {f : Fields} (ready : Ready w heads next s f) (walks : Walks f) (follow-last : Bool) {r : Walk}
+    (answer : r ≡ walked (reaching follow-last (unpack w) (call-in s f))) where
   -- what the rest may ask of the walk's answer
-  pub first-fits : {r : Walk} → r ≡ walked First → Walk-named r × Walk-used r
-  first-fits {r} answer = (answer-named ready last (f .path1) (first-path ready walks) r answer, answer-used ready last (f .path1) (first-path ready walks) r answer)
+  pub first-fits : Walk-named r × Walk-used r
+  first-fits = let leads = reach-leads ready follow-last walks in (answer-named leads answer, answer-used leads answer)
 
-  module _ {asked : Bool} (is : asked ≡ unlisted (unpack w) (f .process)) (listed : asked ≡ false) {r : Walk} (answer : r ≡ walked First)
-      (rest : Goal → Outcome Change) where
-    pub first-refuses : {n : ℕ} → r .stop ≡ Refused n → Meets w (Asks rest) (answers.Refused n) w
-    first-refuses e = passes 4 _ _ is listed (walk-refuses ready last (f .path1) (first-path ready walks) r answer e rest)
+  module _ (rest : Goal → Outcome Change) where
+    abbrev First : Outcome Goal
+    First = walk (unpack w .entries) (unpack w .nodes) follow-last (part-of s (f .path1))
+
+    abbrev Asks : Outcome Change
+    Asks = (4 when unlisted (unpack w) (f .process)) >> (First >>= rest)
+
+    asks-as : Asks ≡ (reaching follow-last (unpack w) (call-in s f) >>= rest)
+    unfolding reaching
+    asks-as = test-first 4 (unlisted (unpack w) (f .process)) First rest
+
+    pub first-refuses : {n : ℕ} → r .stop ≡ Refused n → Meets w Asks (answers.Refused n) w
+    first-refuses e = meets-as asks-as (walk-refuses (reach-leads ready follow-last walks) answer e rest)
 
     pub first-passes : (tagOf stop-cases.the-type (r .stop) ≡ 1) ⊎ (tagOf stop-cases.the-type (r .stop) ≡ 2) → {a : Answer} {v : List ℕ}
-        → Meets w (rest (goal-of r)) a v → Meets w (Asks rest) a v
-    first-passes there m = passes 4 _ _ is listed (walk-passes ready last (f .path1) (first-path ready walks) r answer (not-refused (r .stop) there) rest m)
+        → Meets w (rest (goal-of r)) a v → Meets w Asks a v
+    first-passes there m = meets-as asks-as (walk-passes (reach-leads ready follow-last walks) answer there rest m)

@@ -12,17 +12,17 @@ use denote.Enum.Declared.{tagOf}
 use lib.Dec.{eqb}
 use lib.ListN.{length, replicate, length-append, length-map, length-replicate}
 use lib.Seq.{take-at}
-use Rattle.model.specs.Refusals.{Outcome, refused, granted, _>>=_}
-use Rattle.model.specs.Sound.{leading-to, sound-rows, sound}
+use Rattle.model.specs.Refusals.{Outcome, refused, granted, _when_, _>>_, _>>=_}
+use Rattle.model.specs.Records.{Call}
+use Rattle.model.specs.Sound.{leading-to, sound}
 use Rattle.model.specs.Tables as model-tables
 use Rattle.model.specs.Tables.{Entry, Tables, free-node, node-at}
 use Rattle.model.specs.Walk.{Goal, walk}
 use Rattle.model.specs.Words.{unpack}
-use Rattle.model.specs.Calls.{Change, make-at}
+use Rattle.model.specs.Calls.{Change, unlisted, make-at}
 use Rattle.model.specs.declared.Answer.{Answer}
 use Rattle.model.specs.declared.Answer.the-variants as answers
 use Rattle.laws.proofs.Each.{Each, none, each-map}
-use Rattle.laws.proofs.Pieces.{Byte}
 use Rattle.laws.proofs.Rules.{count-within}
 use Rattle.invariants.proofs.Goals.{Valid, goal-arrives}
 use Rattle.invariants.proofs.Lookups.{lookup-used}
@@ -37,16 +37,16 @@ use Rattle.goals.specs.declared.Stop.the-variants.{Refused}
 use Rattle.goals.specs.declared.Walk.{Walk}
 use Rattle.goals.specs.Goals.{place-row, blank, room-of, stop-of, walked, goal-of, Walk-named}
 use Rattle.goals.proofs.Stop as stop-cases
-use Rattle.goals.proofs.Back.{Goal-fits, Outcome-fits}
-use Rattle.walk.proofs.Goals.{walk-fits, walk-named, walk-refused, walk-granted}
+use Rattle.goals.proofs.Back.{Goal-fits, Outcome-fits, walked-named, refused-back, granted-back}
+use Rattle.walk.proofs.Goals.{walk-fits}
 use Rattle.records.specs.declared.Part.{Part}
 use Rattle.records.specs.declared.Fields.{Fields}
 use Rattle.records.specs.Reading.{part-of}
 use Rattle.plans.specs.Plans.{Place-used, Stop-used, Walk-used}
 use Rattle.calls.specs.Meets.{answer-of, words-of, Meets}
 use Rattle.making.specs.Counts.{Countable}
-use Rattle.accepted.specs.Ready.{Ready, Path-in}
-use Rattle.accepted.proofs.Accepting.{part-bytes}
+use Rattle.accepted.specs.Ready.{call-in, reaching, Ready, Path-in, Walks}
+use Rattle.accepted.proofs.Accepting.{part-bytes, path1-in}
 
 -- THE WORDS
 
@@ -115,55 +115,74 @@ refusal-used n = record { stop = tt; room = refl; elements = none }
 -- AN ANSWER
 
 -- a stop that is none of the refusals, as a match has it
-pub not-refused : (s : Stop) → (tagOf stop-cases.the-type s ≡ 1) ⊎ (tagOf stop-cases.the-type s ≡ 2) → (n : ℕ) → s ≡ Refused n → ⊥
+not-refused : (s : Stop) → (tagOf stop-cases.the-type s ≡ 1) ⊎ (tagOf stop-cases.the-type s ≡ 2) → (n : ℕ) → s ≡ Refused n → ⊥
 not-refused s (inl h) n e = let z : _≡_ {A = ℕ} 0 1 = sym (ap (tagOf stop-cases.the-type) e) ∙ h in omega arith
 not-refused s (inr h) n e = let z : _≡_ {A = ℕ} 0 2 = sym (ap (tagOf stop-cases.the-type) e) ∙ h in omega arith
 
--- `at`: the part is a path
-module _ {w heads next s : List ℕ} {f : Fields} (ready : Ready w heads next s f) (last : Bool) (p : Part) (at : Path-in s p) (r : Walk) where
-  abbrev Leads : Outcome Goal
-  Leads = walk (unpack w .entries) (unpack w .nodes) last (part-of s p)
+-- the caller is asked for before the walk
+module _ (follow-last : Bool) (t : Tables) (r : Call) {asked : Bool} (is : asked ≡ unlisted t (r .process)) where
+  pub reach-refused : asked ≡ true → reaching follow-last t r ≡ refused 4
+  unfolding reaching _>>_
+  reach-refused h = let k : unlisted t (r .process) ≡ true = sym is ∙ h in rw k
 
-  rows-sound : sound-rows (unpack w) ≡ true
-  rows-sound = sound-has-sound-rows w (ready .sound)
+  pub reach-walked : asked ≡ false → reaching follow-last t r ≡ walk (t .entries) (t .nodes) follow-last (r .path1)
+  unfolding reaching _>>_
+  reach-walked h = let k : unlisted t (r .process) ≡ false = sym is ∙ h in rw k
 
-  bytes : Each Byte (part-of s p)
-  bytes = part-bytes p (ready .bytes)
+-- an outcome that the code can hold, and whose goal stands in the tables
+pub record Leading (w : List ℕ) (o : Outcome Goal) : Type 0 where
+  pub order : In-order (unpack w)
+  pub fits : Outcome-fits o
+  pub arrives : (g : Goal) → o ≡ granted g → Arrived Valid (unpack w .entries) (unpack w .nodes) g
 
-  order : In-order (unpack w)
-  order = words-in-order w (ready .sound)
+module _ {w heads next s : List ℕ} {f : Fields} (ready : Ready w heads next s f) (follow-last : Bool) where
+  -- `at`: the part is a path
+  pub path-leads : (p : Part) → Path-in s p → Leading w (walk (unpack w .entries) (unpack w .nodes) follow-last (part-of s p))
+  path-leads p at =
+      let order = words-in-order w (ready .sound) in
+      let bytes = part-bytes p (ready .bytes) in
+      record {
+        order = order;
+        fits = walk-fits w (sound-has-sound-rows w (ready .sound)) follow-last (part-of s p) bytes (at .valid);
+        arrives = λ g e. goal-arrives (unpack w) order follow-last (part-of s p) g bytes (at .valid) e;
+      }
 
-  arrives : (g : Goal) → Leads ≡ granted g → Arrived Valid (unpack w .entries) (unpack w .nodes) g
-  arrives g e = goal-arrives (unpack w) order last (part-of s p) g bytes (at .valid) e
+  pub reach-leads : Walks f → Leading w (reaching follow-last (unpack w) (call-in s f))
+  unfolding reaching _>>_ Outcome-fits
+  reach-leads walks = go (unlisted (unpack w) (f .process))
+    where
+      go : (b : Bool) → Leading w ((4 when b) >> walk (unpack w .entries) (unpack w .nodes) follow-last (part-of s (f .path1)))
+      go true = record { order = words-in-order w (ready .sound); fits = tt; arrives = λ g e. let z : _≡_ {A = ℕ} 0 1 = cc in absurd (omega arith) }
+      go false = path-leads (f .path1) (path1-in (ready .bytes) (ready .read) walks)
 
-  module _ (answer : r ≡ walked Leads) where
-    pub answer-named : Walk-named r
-    answer-named = subst Walk-named (sym answer) (walk-named w rows-sound last (part-of s p) bytes (at .valid))
+module _ {w : List ℕ} {o : Outcome Goal} (leading : Leading w o) {r : Walk} (answer : r ≡ walked o) where
+  pub answer-named : Walk-named r
+  answer-named = subst Walk-named (sym answer) (walked-named o (leading .fits))
 
-    pub answer-used : Walk-used r
-    unfolding Outcome-fits
-    answer-used = subst Walk-used (sym answer) (go Leads refl (walk-fits w rows-sound last (part-of s p) bytes (at .valid)))
-      where
-        go : (o : Outcome Goal) → Leads ≡ o → Outcome-fits o → Walk-used (walked o)
-        go (refused n) e fits = refusal-used n
-        go (granted g) e fits = goal-used (unpack w) order g (arrives g e) fits
+  pub answer-used : Walk-used r
+  unfolding Outcome-fits
+  answer-used = subst Walk-used (sym answer) (go o refl (leading .fits))
+    where
+      go : (p : Outcome Goal) → o ≡ p → Outcome-fits p → Walk-used (walked p)
+      go (refused n) e fits = refusal-used n
+      go (granted g) e fits = goal-used (unpack w) (leading .order) g (leading .arrives g e) fits
 
-    -- a walk that was refused refuses the call
-    pub walk-refuses : {n : ℕ} → r .stop ≡ Refused n → (rest : Goal → Outcome Change) → Meets w (Leads >>= rest) (answers.Refused n) w
-    unfolding _>>=_ answer-of words-of
-    walk-refuses {n} e rest = rw (walk-refused w rows-sound last (part-of s p) bytes (at .valid) r answer n e) (record { answer = refl; words = refl })
+  -- a walk that was refused refuses the call
+  pub walk-refuses : {n : ℕ} → r .stop ≡ Refused n → (rest : Goal → Outcome Change) → Meets w (o >>= rest) (answers.Refused n) w
+  unfolding _>>=_ answer-of words-of
+  walk-refuses {n} e rest = rw (refused-back o r answer n e) (record { answer = refl; words = refl })
 
-    -- and else the call goes on with the model's goal
-    module _ (there : (n : ℕ) → r .stop ≡ Refused n → ⊥) where
-      goes-to : Leads ≡ granted (goal-of r)
-      goes-to = walk-granted w rows-sound last (part-of s p) bytes (at .valid) r answer there
+  -- and else the call goes on with the model's goal
+  module _ (there : (tagOf stop-cases.the-type (r .stop) ≡ 1) ⊎ (tagOf stop-cases.the-type (r .stop) ≡ 2)) where
+    goes-to : o ≡ granted (goal-of r)
+    goes-to = granted-back o r answer (leading .fits) (not-refused (r .stop) there)
 
-      pub walk-passes : (rest : Goal → Outcome Change) {a : Answer} {v : List ℕ} → Meets w (rest (goal-of r)) a v → Meets w (Leads >>= rest) a v
-      unfolding _>>=_
-      walk-passes rest m = rw goes-to m
+    pub walk-passes : (rest : Goal → Outcome Change) {a : Answer} {v : List ℕ} → Meets w (rest (goal-of r)) a v → Meets w (o >>= rest) a v
+    unfolding _>>=_
+    walk-passes rest m = rw goes-to m
 
-      pub answer-countable : Countable (unpack w .nodes) (goal-of r .node)
-      answer-countable = goal-countable (unpack w) order (goal-of r) (arrives (goal-of r) goes-to)
+    pub answer-countable : Countable (unpack w .nodes) (goal-of r .node)
+    answer-countable = goal-countable (unpack w) (leading .order) (goal-of r) (leading .arrives (goal-of r) goes-to)
 
 -- a new node's target, by its bytes
 pub target-as : (kind : ℕ) (t : Tables) (p : ℕ) (g : Goal) {l m : List ℕ} → l ≡ m → {w v : List ℕ} {a : Answer}

@@ -6,8 +6,12 @@ use Prim.Native.Nat.{ℕ, _+_, _≤_}
 use lib.Dec.{eqb}
 use lib.ListN.{length}
 use Rattle.model.specs.Paths.{valid-path}
+use Rattle.model.specs.Refusals.{Outcome, _when_, _>>_}
+use Rattle.model.specs.Tables.{Tables}
 use Rattle.model.specs.Sound.{sound}
 use Rattle.model.specs.Records.{Call, path, row-of}
+use Rattle.model.specs.Walk.{Goal, walk}
+use Rattle.model.specs.Calls.{unlisted}
 use Rattle.laws.specs.Each.{Each, Byte}
 use Rattle.records.specs.declared.Part.{Part}
 use Rattle.records.specs.declared.Fields.{Fields}
@@ -44,6 +48,12 @@ pub record Path-in (s : List ℕ) (p : Part) : Type 0 where
 -- The thirteen calls: path 1 is wanted, and a path
 unfoldable pub Walks : Fields → Type 0
 Walks f = row-of (f .call) .path1 ≡ path
+
+-- Numbers given back, 4; and else where path 1 leads
+unfoldable pub reaching : Bool → Tables → Call → Outcome Goal
+reaching follow-last t r = do
+  4 when unlisted t (r .process)
+  walk (t .entries) (t .nodes) follow-last (r .path1)
 
 -- Numbers given back: 17 is the one refusal that comes before the test of the tables
 unfoldable pub cut-short : Reading → Bool

@@ -1,4 +1,4 @@
-// What reading found of a record, and a path walked where it stands in an accepted one.
+// What reading found of a record, and the paths of an accepted one walked where they stand in it.
 ghost use mathlib.Core.Path.{_≡_};
 ghost use mathlib.Core.Bool.{true};
 ghost use Rattle.model.specs.Sound.{sound};
@@ -7,13 +7,16 @@ ghost use Rattle.model.specs.Words.{unpack};
 ghost use Rattle.records.specs.Reading.{part-of, taken-of};
 ghost use Rattle.index.specs.Indexed.{Indexed};
 ghost use Rattle.goals.specs.Goals.{walked};
-ghost use Rattle.accepted.specs.Ready.{cut-short, Path-in};
+ghost use Rattle.accepted.specs.Ready.{call-in, reaching, cut-short, Path-in, Ready, Walks};
 use goals::Walk;
+use model::NOT_LISTED;
+use model::SHORT_RECORD;
+use processes::is_unlisted;
+use records::Fields;
 use records::Part;
 use records::Reading;
+use walk::refuse;
 use walk::walk;
-
-const TOO_SHORT: u8 = 17;
 
 pub fn taken_of(found: Reading) -> usize
     ensures { λ r. ⌜ r ≡ taken-of found ⌝ }
@@ -32,7 +35,7 @@ pub fn is_cut_short(found: Reading) -> bool
             fields: _,
             taken: _,
         } => false,
-        Reading::Refused { number, taken: _ } => number == TOO_SHORT,
+        Reading::Refused { number, taken: _ } => number == SHORT_RECORD,
     }
 }
 
@@ -42,12 +45,31 @@ pub fn walk_part(
     next: &[u16; 512],
     bytes: &[u8],
     part: Part,
-    last: bool,
+    follow_last: bool,
 ) -> Walk
     requires { ⌜ (sound (now words) ≡ true) × ((Indexed (now words) (now heads) (now next)) × (Path-in (now bytes) part)) ⌝ }
-    ensures { λ r. ⌜ r ≡ walked (walk (unpack (now (words .entry)) .entries) (unpack (now (words .entry)) .nodes) last (part-of (now (bytes .entry)) part)) ⌝ }
+    ensures { λ r. ⌜ r ≡ walked (walk (unpack (now (words .entry)) .entries) (unpack (now (words .entry)) .nodes) «follow_last» (part-of (now (bytes .entry)) part)) ⌝ }
 {
     let start = part.start;
     let end = start + part.length;
-    walk(words, heads, next, &bytes[start..end], last)
+    walk(words, heads, next, &bytes[start..end], follow_last)
+}
+
+// How the calls that walk begin: path 1 is walked for a process that is listed.
+pub fn reach(
+    words: &[u32],
+    heads: &[u16; 1021],
+    next: &[u16; 512],
+    bytes: &[u8],
+    fields: Fields,
+    follow_last: bool,
+) -> Walk
+    requires { ⌜ (Ready (now words) (now heads) (now next) (now bytes) fields) × (Walks fields) ⌝ }
+    ensures { λ r. ⌜ r ≡ walked (reaching «follow_last» (unpack (now (words .entry))) (call-in (now (bytes .entry)) fields)) ⌝ }
+{
+    if is_unlisted(words, fields.process) {
+        return refuse(NOT_LISTED);
+    }
+    let path = fields.path1;
+    walk_part(words, heads, next, bytes, path, follow_last)
 }

@@ -4,7 +4,9 @@ ghost use Rattle.model.specs.Calls.{enter};
 ghost use Rattle.model.specs.Words.{unpack};
 ghost use Rattle.rows.specs.Stands.{Stands};
 ghost use Rattle.calls.specs.Meets.{Meets, process-call};
+use model::ALREADY_LISTED;
 use model::Answer;
+use model::NO_PROCESS_ROW;
 use processes::add_process;
 use processes::lacks_process_row;
 use search::is_listed;
@@ -14,10 +16,10 @@ pub fn enter(words: &mut [u32], process: u16, user: u16) -> Answer
     ensures { λ r. ⌜ Meets (now (words .entry)) (enter (unpack (now (words .entry))) (process-call 1 process user)) r (now (words .exit)) ⌝ }
 {
     if is_listed(words, process) {
-        return Answer::Refused(5);
+        return Answer::Refused(ALREADY_LISTED);
     }
     if lacks_process_row(words) {
-        return Answer::Refused(6);
+        return Answer::Refused(NO_PROCESS_ROW);
     }
     add_process(words, process, user);
     Answer::Done(process)

@@ -5,6 +5,7 @@ ghost use Rattle.rows.specs.Stands.{Stands};
 ghost use Rattle.calls.specs.Meets.{Meets, process-call};
 use holds::drop_of_process;
 use model::Answer;
+use model::NOT_LISTED;
 use processes::is_unlisted;
 
 pub fn exec(words: &mut [u32], process: u16) -> Answer
@@ -12,7 +13,7 @@ pub fn exec(words: &mut [u32], process: u16) -> Answer
     ensures { λ r. ⌜ Meets (now (words .entry)) (exec (unpack (now (words .entry))) (process-call 3 process 0)) r (now (words .exit)) ⌝ }
 {
     if is_unlisted(words, process) {
-        return Answer::Refused(4);
+        return Answer::Refused(NOT_LISTED);
     }
     drop_of_process(words, process);
     Answer::Done(process)

@@ -5,6 +5,7 @@ ghost use Rattle.rows.specs.Stands.{Stands};
 ghost use Rattle.calls.specs.Meets.{Meets, process-call};
 use holds::drop_of_process;
 use model::Answer;
+use model::NOT_LISTED;
 use processes::drop_process;
 use processes::is_unlisted;
 
@@ -13,7 +14,7 @@ pub fn exit(words: &mut [u32], process: u16) -> Answer
     ensures { λ r. ⌜ Meets (now (words .entry)) (exit (unpack (now (words .entry))) (process-call 4 process 0)) r (now (words .exit)) ⌝ }
 {
     if is_unlisted(words, process) {
-        return Answer::Refused(4);
+        return Answer::Refused(NOT_LISTED);
     }
     drop_of_process(words, process);
     drop_process(words, process);

@@ -6,7 +6,11 @@ ghost use Rattle.model.specs.Holds.{no-room, copies};
 ghost use Rattle.model.specs.Words.{unpack};
 ghost use Rattle.rows.specs.Stands.{Stands};
 ghost use Rattle.calls.specs.Meets.{Meets, process-call};
+use model::ALREADY_LISTED;
 use model::Answer;
+use model::NO_HOLD_ROW;
+use model::NO_PROCESS_ROW;
+use model::NOT_LISTED;
 use plans::copy_holds;
 use plans::count_of_process;
 use processes::add_process;
@@ -29,16 +33,16 @@ pub fn fork(words: &mut [u32], process: u16, child: u16) -> Answer
     ensures { λ r. ⌜ Meets (now (words .entry)) (fork (unpack (now (words .entry))) (process-call 2 process child)) r (now (words .exit)) ⌝ }
 {
     if is_unlisted(words, process) {
-        return Answer::Refused(4);
+        return Answer::Refused(NOT_LISTED);
     }
     if is_listed(words, child) {
-        return Answer::Refused(5);
+        return Answer::Refused(ALREADY_LISTED);
     }
     if lacks_process_row(words) {
-        return Answer::Refused(6);
+        return Answer::Refused(NO_PROCESS_ROW);
     }
     if lacks_room_for_copies(words, process, child) {
-        return Answer::Refused(16);
+        return Answer::Refused(NO_HOLD_ROW);
     }
     let user = user_of_process(words, process);
     copy_holds(words, process, child);

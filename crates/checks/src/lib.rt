@@ -14,15 +14,17 @@ use goals::node_of;
 use holds::drop_preempted;
 use holds::end_held;
 use holds::is_root;
+use model::ABSENT;
 use model::Answer;
+use model::NO_HOLD_ROW;
 use plans::add_planned;
 use plans::lacks_room;
 use plans::plan_holds;
 
-fn is_missing(required: bool, walk: Walk) -> bool
-    ensures { λ r. ⌜ r ≡ required && absent (goal-of walk) ⌝ }
+fn is_missing(must_exist: bool, walk: Walk) -> bool
+    ensures { λ r. ⌜ r ≡ «must_exist» && absent (goal-of walk) ⌝ }
 {
-    if required {
+    if must_exist {
         return is_absent(walk);
     }
     false
@@ -39,12 +41,12 @@ fn is_seen(words: &[u32], process: u16, walk: Walk) -> bool
     end_held(words, process, walk)
 }
 
-pub fn look_at(words: &mut [u32], process: u16, walk: Walk, required: bool) -> Answer
+pub fn look_at(words: &mut [u32], process: u16, walk: Walk, must_exist: bool) -> Answer
     requires { ⌜ (Stands (now words)) × ((Walk-named walk) × (Walk-used walk)) ⌝ }
-    ensures { λ r. ⌜ Meets (now (words .entry)) (look-at required (unpack (now (words .entry))) process (goal-of walk)) r (now (words .exit)) ⌝ }
+    ensures { λ r. ⌜ Meets (now (words .entry)) (look-at «must_exist» (unpack (now (words .entry))) process (goal-of walk)) r (now (words .exit)) ⌝ }
 {
-    if is_missing(required, walk) {
-        return Answer::Refused(10);
+    if is_missing(must_exist, walk) {
+        return Answer::Refused(ABSENT);
     }
     let node = node_of(walk);
     if is_seen(words, process, walk) {
@@ -52,7 +54,7 @@ pub fn look_at(words: &mut [u32], process: u16, walk: Walk, required: bool) -> A
     }
     let plan = plan_holds(words, process, walk);
     if lacks_room(words, plan) {
-        return Answer::Refused(16);
+        return Answer::Refused(NO_HOLD_ROW);
     }
     drop_preempted(words, process, walk);
     add_planned(words, plan);

@@ -6,19 +6,16 @@ ghost use Rattle.model.specs.Words.{unpack};
 ghost use Rattle.records.specs.Reading.{part-of};
 ghost use Rattle.calls.specs.Meets.{Meets};
 ghost use Rattle.accepted.specs.Ready.{call-in, Ready, Walks};
+use accepted::reach;
 use accepted::walk_part;
 use goals::Stop;
 use making::link::link_at;
 use making::make::make_at;
 use model::Answer;
-use processes::is_unlisted;
 use records::Fields;
-
-const FILE: u8 = 1;
-
-const DIRECTORY: u8 = 2;
-
-const LINK: u8 = 3;
+use rows::DIRECTORY;
+use rows::FILE;
+use rows::LINK;
 
 // A new node of this kind at the end of path 1. Path 2 is its target, and blank for all but a link.
 fn make(
@@ -32,11 +29,7 @@ fn make(
     requires { ⌜ (Ready (now words) (now heads) (now next) (now bytes) fields) × ((Walks fields) × ((1 ≤ kind) × ((kind < 4) × (fields .path2 .length ≤ 64)))) ⌝ }
     ensures { λ r. ⌜ Meets (now (words .entry)) (make kind (part-of (now (bytes .entry)) (fields .path2)) (unpack (now (words .entry))) (call-in (now (bytes .entry)) fields)) r (now (words .exit)) ⌝ }
 {
-    if is_unlisted(words, fields.process) {
-        return Answer::Refused(4);
-    }
-    let path = fields.path1;
-    let walk = walk_part(words, heads, next, bytes, path, false);
+    let walk = reach(words, heads, next, bytes, fields, false);
     let stop = walk.stop;
     if let Stop::Refused(number) = stop {
         return Answer::Refused(number);
@@ -86,7 +79,7 @@ pub fn symlink(
     make(words, heads, next, bytes, fields, LINK)
 }
 
-// Path 1 is the new path, path 2 the old one.
+// The new entry goes to the end of path 1, and leads to the node that path 2 leads to.
 pub fn link(
     words: &mut [u32],
     heads: &[u16; 1021],
@@ -97,11 +90,7 @@ pub fn link(
     requires { ⌜ (Ready (now words) (now heads) (now next) (now bytes) fields) × (fields .call ≡ 11) ⌝ }
     ensures { λ r. ⌜ Meets (now (words .entry)) (link (unpack (now (words .entry))) (call-in (now (bytes .entry)) fields)) r (now (words .exit)) ⌝ }
 {
-    if is_unlisted(words, fields.process) {
-        return Answer::Refused(4);
-    }
-    let new_path = fields.path1;
-    let walk = walk_part(words, heads, next, bytes, new_path, false);
+    let walk = reach(words, heads, next, bytes, fields, false);
     let stop = walk.stop;
     if let Stop::Refused(number) = stop {
         return Answer::Refused(number);

@@ -15,11 +15,10 @@ use looks::check;
 use looks::look;
 use looks::use_of;
 use model::Answer;
+use model::BAD_FIELD;
 use records::Fields;
 use removals::rmdir;
 use removals::unlink;
-
-const BROKEN: u8 = 2;
 
 pub fn dispatch(
     words: &mut [u32],
@@ -46,7 +45,7 @@ pub fn dispatch(
         11 => link(words, heads, next, bytes, fields),
         12 => unlink(words, heads, next, bytes, fields),
         13 => rmdir(words, heads, next, bytes, fields),
-        14..=31 => Answer::Refused(BROKEN),
-        _ => Answer::Refused(BROKEN),
+        14..=31 => Answer::Refused(BAD_FIELD),
+        _ => Answer::Refused(BAD_FIELD),
     }
 }

@@ -13,6 +13,7 @@ use edits::set_entry;
 use goals::Place;
 use goals::Stop;
 use goals::Walk;
+use rows::ENTRY_ROWS;
 use rows::EntryRow;
 use search::entry_is_at;
 use search::free_entry_row;
@@ -32,7 +33,7 @@ fn drop_at(words: &mut [u32], place: Place)
     ensures { λ _. ⌜ Becomes (now (words .exit)) (with-entries (unpack (now (words .entry))) (clear (at (place-at place)) no-entry (unpack (now (words .entry)) .entries))) ⌝ }
 {
     let mut i = 0;
-    while i < 512 {
+    while i < ENTRY_ROWS {
         drop_if_at(words, i, place);
         i += 1;
     }
@@ -56,7 +57,7 @@ fn put_at(words: &mut [u32], place: Place, node: u16)
 {
     let row = free_entry_row(words);
     let name = place.name;
-    if row < 512 {
+    if row < ENTRY_ROWS {
         set_entry(
             words,
             row,

@@ -1,5 +1,5 @@
 -- What serving and making fresh answer, as the numbers that are told. Assumes nothing.
-use mathlib.Core.Path.{_≡_, refl, sym, ap, _∙_}
+use mathlib.Core.Path.{_≡_, refl, ap, _∙_}
 use mathlib.Core.List.{List}
 use Prim.Native.Nat.{ℕ, _<_}
 use native.Mathlib.Omega.{arith}
@@ -8,7 +8,6 @@ use Rattle.model.specs.Answers.{number-of}
 use Rattle.model.specs.Records.{taken}
 use Rattle.model.specs.Calls.{Change}
 use Rattle.model.specs.Serve.{judged, served, serve, made-fresh}
-use Rattle.model.specs.declared.Answer.{Answer}
 use Rattle.model.specs.declared.Verdict.{Verdict}
 use Rattle.fresh.specs.Prepared.{Prepares, answer-of}
 use Rattle.fresh.specs.declared.Prepared.the-variants as fresh-cases
@@ -34,12 +33,9 @@ module _ {w s v : List ℕ} {r : Verdict} (serves : Serves w s r v) where
       let is : r .taken ≡ taken s = ap (λ (x : Verdict). x .taken) (serves .verdict) ∙ serve-takes w s in
       rw is (taken-small s)
 
-  pub answer-told : (a : Answer) → r .answer ≡ a → answer-number (word-number a) (number-of a) (r .taken) ≡ served-number (serve w s)
+  pub answer-told : answer-number (word-number (r .answer)) (number-of (r .answer)) (r .taken) ≡ served-number (serve w s)
   unfolding verdict-of served-number
-  answer-told a e =
-      let answer : serve w s .answer ≡ a = sym (ap (λ (x : Verdict). x .answer) (serves .verdict)) ∙ e in
-      let bytes : r .taken ≡ serve w s .taken = ap (λ (x : Verdict). x .taken) (serves .verdict) in
-      rw (answer, bytes)
+  answer-told = ap (λ (x : Verdict). answer-number (word-number (x .answer)) (number-of (x .answer)) (x .taken)) (serves .verdict)
 
 -- FRESH TABLES
 

@@ -2,42 +2,29 @@
 // function below it gives, as numbers by one definition.
 ghost use Rattle.records.specs.Packing.{called};
 ghost use Rattle.model.specs.Sound.{sound};
-ghost use Rattle.exports.specs.Numbers.{answer-number, field-numbers, Small, Reads-as, Packs-as, Makes-fresh, Serves-as, soundness-number, Walks-as};
+ghost use Rattle.exports.specs.Numbers.{field-numbers, Small, Reads-as, Packs-as, Makes-fresh, Serves-as, soundness-number, Walks-as};
 ghost use Rattle.exports.specs.Runs.{Runs-as};
 ghost use mathlib.Core.Path.{_≡_};
-ghost use Prim.Native.Nat.{_<_};
 use fresh::Prepared;
-use model::Answer;
+use model::UNSOUND;
 use records::Fields;
 use records::Packing;
 use records::Reading;
+use runs::DONE;
+use runs::REFUSED;
+use runs::told;
+use runs::told_answer;
 use walking::Arrival;
 
-const HELD: u64 = 0;
-
-const SEEN: u64 = 1;
-
-const DONE: u64 = 2;
-
-const REFUSED: u64 = 3;
-
-// An answer as one number: the answer's number in the lower 32 bits, its word in the two above, and the bytes taken above those.
-fn told(word: u64, number: u64, taken: u64) -> u64
-    requires { ⌜ (word < 4) × (number < 4294967296) × (taken < 65536) ⌝ }
-    ensures { λ r. ⌜ r ≡ answer-number word number taken ⌝ }
+fn put_fields(numbers: &mut [u32; 6], fields: Fields)
+    requires { ⌜ Small fields ⌝ }
+    ensures { λ _. ⌜ now (numbers .exit) ≡ field-numbers fields ⌝ }
 {
-    taken * 17179869184 + word * 4294967296 + number
-}
-
-fn put_fields(fields: &mut [u32; 6], f: Fields)
-    requires { ⌜ Small f ⌝ }
-    ensures { λ _. ⌜ now (fields .exit) ≡ field-numbers f ⌝ }
-{
-    let path1 = f.path1;
-    let path2 = f.path2;
-    *fields = [
-        f.process as u32,
-        f.argument as u32,
+    let path1 = fields.path1;
+    let path2 = fields.path2;
+    *numbers = [
+        fields.process as u32,
+        fields.argument as u32,
         path1.start as u32,
         path1.length as u32,
         path2.start as u32,
@@ -52,9 +39,12 @@ pub extern "C" fn tickbutton_read(bytes: &[u8], fields: &mut [u32; 6]) -> u64
     ensures { λ r. ⌜ Reads-as (now (bytes .entry)) r (now (fields .exit)) ⌝ }
 {
     match records::read(bytes) {
-        Reading::Accepted { fields: f, taken } => {
-            put_fields(fields, f);
-            told(DONE, f.call as u64, taken as u64)
+        Reading::Accepted {
+            fields: found,
+            taken,
+        } => {
+            put_fields(fields, found);
+            told(DONE, found.call as u64, taken as u64)
         }
         Reading::Refused { number, taken } => {
             *fields = [0; 6];
@@ -98,14 +88,8 @@ pub extern "C" fn tickbutton_serve(words: &mut [u32], record: &[u8]) -> u64
     ensures { λ r. ⌜ Serves-as (now (words .entry)) (now («record» .entry)) r (now (words .exit)) ⌝ }
 {
     let verdict = service::serve(words, record);
-    let taken = verdict.taken as u64;
     let answer = verdict.answer;
-    match answer {
-        Answer::Held(node) => told(HELD, node as u64, taken),
-        Answer::Seen(node) => told(SEEN, node as u64, taken),
-        Answer::Done(number) => told(DONE, number as u64, taken),
-        Answer::Refused(number) => told(REFUSED, number as u64, taken),
-    }
+    told_answer(answer, verdict.taken as u64)
 }
 
 // Whether the words are sound tables: done with 0 where they are, else refused with 1.
@@ -116,7 +100,7 @@ pub extern "C" fn tickbutton_sound(words: &[u32]) -> u64
     if soundness::sound(words) {
         return told(DONE, 0, 0);
     }
-    told(REFUSED, 1, 0)
+    told(REFUSED, UNSOUND as u64, 0)
 }
 
 // Walks a path over the words, a link at its last name too where that is asked: done with the node that it leads to, 0 for an absence, or

@@ -9,7 +9,6 @@ use lib.Dec.{eqb}
 use Rattle.model.specs.Tables.{Hold, Process, free-hold, user-of}
 use Rattle.model.specs.Sound.{is-end}
 use Rattle.model.specs.Holds.{on, inside, of-process}
-use Rattle.laws.proofs.Bools.{and-false}
 use Rattle.goals.specs.declared.Place.{Place}
 use Rattle.goals.specs.Goals.{place-at}
 use Rattle.holds.specs.declared.Scope.{Scope}
@@ -53,7 +52,3 @@ module _ (h : Hold) where
     pub way-free : {a : Bool} → a ≡ covers scope h → a ≡ false → false ≡ in-the-way processes scope user h
     unfolding in-the-way
     way-free e t = let k : covers scope h ≡ false = sym e ∙ t in simp k
-
-    pub free-in-no-way : {k : ℕ} → k ≡ h .place .directory → k ≡ 0 → false ≡ in-the-way processes scope user h
-    unfolding in-the-way
-    free-in-no-way e z = sym (and-false (covers scope h) (of-another processes user h) (λ _. sym (free-of-nobody processes user e z)))

@@ -15,6 +15,8 @@ use edits::clear_hold;
 use goals::Place;
 use goals::Stop;
 use goals::Walk;
+use rows::END;
+use rows::HOLD_ROWS;
 use rows::hold_directory;
 use rows::hold_process;
 use rows::hold_role;
@@ -23,7 +25,7 @@ use search::user_of_process;
 
 // WHICH HOLDS a test is about: on an entry as its end, on it in either role, inside a directory, or of a process.
 // `Nothing` is for a walk that stopped at no entry.
-pub enum Scope {
+enum Scope {
     Nothing,
     EndAt(Place),
     EntryAt(Place),
@@ -53,7 +55,7 @@ fn ends_at(words: &[u32], row: usize, place: Place) -> bool
     requires { ⌜ (Stands (now words)) × ((row < 256) × (Scope-named (Scope.EndAt place))) ⌝ }
     ensures { λ r. ⌜ r ≡ covers (Scope.EndAt place) (hold-row (now (words .entry)) row) ⌝ }
 {
-    if hold_role(words, row) != 1 {
+    if hold_role(words, row) != END {
         return false;
     }
     let name = place.name;
@@ -76,7 +78,8 @@ fn is_covered(words: &[u32], row: usize, scope: Scope) -> bool
     }
 }
 
-fn covers_another(words: &[u32], row: usize, scope: Scope, user: u16) -> bool
+// The scope is asked first: of the rows that are in use, few are in it.
+fn is_in_the_way(words: &[u32], row: usize, scope: Scope, user: u16) -> bool
     requires { ⌜ (Stands (now words)) × ((row < 256) × (Scope-named scope)) ⌝ }
     ensures { λ r. ⌜ r ≡ in-the-way (unpack (now (words .entry)) .processes) scope user (hold-row (now (words .entry)) row) ⌝ }
 {
@@ -86,24 +89,13 @@ fn covers_another(words: &[u32], row: usize, scope: Scope, user: u16) -> bool
     false
 }
 
-// A free row is asked first: most rows are free, and none of them is in the way.
-fn is_in_the_way(words: &[u32], row: usize, scope: Scope, user: u16) -> bool
-    requires { ⌜ (Stands (now words)) × ((row < 256) × (Scope-named scope)) ⌝ }
-    ensures { λ r. ⌜ r ≡ in-the-way (unpack (now (words .entry)) .processes) scope user (hold-row (now (words .entry)) row) ⌝ }
-{
-    if hold_directory(words, row) == 0 {
-        return false;
-    }
-    covers_another(words, row, scope, user)
-}
-
 // Whether another user has a hold in the scope.
 fn others_hold(words: &[u32], scope: Scope, user: u16) -> bool
     requires { ⌜ (Stands (now words)) × (Scope-named scope) ⌝ }
     ensures { λ r. ⌜ r ≡ any (in-the-way (unpack (now (words .entry)) .processes) scope user) (unpack (now (words .entry)) .holds) ⌝ }
 {
     let mut i = 0;
-    while i < 256 {
+    while i < HOLD_ROWS {
         if is_in_the_way(words, i, scope, user) {
             return true;
         }
@@ -180,7 +172,7 @@ fn drop_covered(words: &mut [u32], scope: Scope)
     ensures { λ _. ⌜ Becomes (now (words .exit)) (with-holds (unpack (now (words .entry))) (drop-holds (covers scope) (unpack (now (words .entry)) .holds))) ⌝ }
 {
     let mut i = 0;
-    while i < 256 {
+    while i < HOLD_ROWS {
         drop_if_covered(words, i, scope);
         i += 1;
     }
@@ -216,13 +208,13 @@ fn drop_in_the_way(words: &mut [u32], scope: Scope, user: u16)
     ensures { λ _. ⌜ Becomes (now (words .exit)) (with-holds (unpack (now (words .entry))) (drop-holds (in-the-way (unpack (now (words .entry)) .processes) scope user) (unpack (now (words .entry)) .holds))) ⌝ }
 {
     let mut i = 0;
-    while i < 256 {
+    while i < HOLD_ROWS {
         drop_if_in_the_way(words, i, scope, user);
         i += 1;
     }
 }
 
-// Root's check, look or use: the other users' end holds on the end entry.
+// Root at calls 5 to 7: other users lose their end holds at the end of the walk.
 pub fn drop_preempted(words: &mut [u32], process: u16, walk: Walk)
     requires { ⌜ (Stands (now words)) × (Walk-named walk) ⌝ }
     ensures { λ _. ⌜ Becomes (now (words .exit)) (with-holds (unpack (now (words .entry))) (drop-holds (preempted (unpack (now (words .entry))) process (goal-of walk)) (unpack (now (words .entry)) .holds))) ⌝ }
@@ -234,7 +226,7 @@ pub fn drop_preempted(words: &mut [u32], process: u16, walk: Walk)
     drop_in_the_way(words, end_scope(walk), user);
 }
 
-// Root's creation or removal: every hold of other users on the end entry.
+// Root at calls 8 to 13: they lose their holds there in either role.
 pub fn drop_overruled(words: &mut [u32], process: u16, walk: Walk)
     requires { ⌜ (Stands (now words)) × (Walk-named walk) ⌝ }
     ensures { λ _. ⌜ Becomes (now (words .exit)) (with-holds (unpack (now (words .entry))) (drop-holds (overruled (unpack (now (words .entry))) process (goal-of walk)) (unpack (now (words .entry)) .holds))) ⌝ }

@@ -1,5 +1,5 @@
+pub mod Determined
 pub mod Nexts
-pub mod OneResult
 pub mod PartFacts
 pub mod PartRuns
 pub mod StepCases

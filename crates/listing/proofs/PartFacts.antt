@@ -15,7 +15,7 @@ use Rattle.laws.proofs.Bools.{and-left, and-right, not-true}
 use Rattle.listing.specs.declared.Step.{Step}
 use Rattle.listing.specs.declared.Step.the-variants as step
 use Rattle.listing.specs.declared.Part.{Part}
-use Rattle.listing.specs.Steps.{longest-line, over-front, listed, next}
+use Rattle.listing.specs.Steps.{longest-line, over-front, listed, next-line}
 use Rattle.listing.specs.Parts.{Filled, filled, no-line, behind, filled-by, fill, list-part}
 use Rattle.lines.proofs.LineBytes.{line-length}
 use Rattle.listing.proofs.Nexts.{next-over, next-nothing-yet, next-full, next-more, next-listed}
@@ -30,11 +30,11 @@ module _ (w s : List ℕ) (last : Bool) (place : ℕ) (out : List ℕ) where
       length-append text (drop (length text) out)
       ∙ omega (arith, length-drop (length text) out, line-length place (serve w s .answer))
 
-  step-long : length (next w s last place out .out) ≡ length out
+  step-long : length (next-line w s last place out .out) ≡ length out
   step-long = go (empty s) refl last refl (ltb (length out) longest-line) refl (short s && not last) refl
     where
       go : (a : Bool) → empty s ≡ a → (b : Bool) → last ≡ b → (c : Bool) → ltb (length out) longest-line ≡ c → (d : Bool)
-          → (short s && not last) ≡ d → length (next w s last place out .out) ≡ length out
+          → (short s && not last) ≡ d → length (next-line w s last place out .out) ≡ length out
       go true e true l c h d q = rw (next-over w s last place out e l)
       go true e false l c h d q = rw (next-nothing-yet w s last place out e l)
       go false e b l true h d q = rw (next-full w s last place out e (ltb-true (length out) longest-line h))
@@ -51,19 +51,19 @@ pub record Part-facts (s out : List ℕ) (r : Part) : Type 0 where
 
 -- of what a step answered, and of what goes on after a line
 by-step : (on : List ℕ → List ℕ → ℕ → List ℕ → Filled) (last : Bool) (w s : List ℕ) (place : ℕ) (out : List ℕ) (r : Step)
-    → next w s last place out .step ≡ r → ((v t : List ℕ) (p : ℕ) (o : List ℕ) → Part-facts t o (on v t p o .part))
-    → Part-facts s out (filled-by on s place (next w s last place out .words) (next w s last place out .out) r .part)
+    → next-line w s last place out .step ≡ r → ((v t : List ℕ) (p : ℕ) (o : List ℕ) → Part-facts t o (on v t p o .part))
+    → Part-facts s out (filled-by on s place (next-line w s last place out .words) (next-line w s last place out .out) r .part)
 unfolding filled-by no-line behind Fact
 by-step on last w s place out step.Over e rest = record { takes-there = omega arith; fits-out = omega arith }
 by-step on last w s place out step.More e rest = record { takes-there = omega arith; fits-out = omega arith }
 by-step on last w s place out step.Full e rest = record { takes-there = omega arith; fits-out = omega arith }
 by-step on last w s place out (step.Last l) e rest =
     let f : l ≤ length out = answer-facts w s last place out refl e in
-    record { takes-there = omega arith; fits-out = omega (arith, length-take l (next w s last place out .out)) }
+    record { takes-there = omega arith; fits-out = omega (arith, length-take l (next-line w s last place out .out)) }
 by-step on last w s place out (step.Line t l) e rest =
     let f : Line-facts s place out t l = answer-facts w s last place out refl e in
-    let o = next w s last place out .out in
-    let g = rest (next w s last place out .words) (drop t s) (suc place) (drop l o) in
+    let o = next-line w s last place out .out in
+    let g = rest (next-line w s last place out .words) (drop t s) (suc place) (drop l o) in
     record {
       takes-there = omega (arith, f .takes-there, g .takes-there, length-drop t s);
       fits-out = omega (arith, f .fits-out, g .fits-out, length-drop l o, length-take l o, step-long w s last place out);
@@ -73,7 +73,7 @@ fill-facts : (n : ℕ) (last : Bool) (w s : List ℕ) (place : ℕ) (out : List 
 unfolding fill no-line
 fill-facts zero last w s place out = record { takes-there = omega arith; fits-out = omega arith }
 fill-facts (suc n) last w s place out =
-    by-step (fill n last) last w s place out (next w s last place out .step) refl (fill-facts n last)
+    by-step (fill n last) last w s place out (next-line w s last place out .step) refl (fill-facts n last)
 
 pub part-facts : (last : Bool) (w s : List ℕ) (place : ℕ) (out : List ℕ) → Part-facts s out (list-part last w s place out .part)
 unfolding list-part

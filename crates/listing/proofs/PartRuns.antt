@@ -12,7 +12,7 @@ use Rattle.listing.specs.declared.Step.{Step}
 use Rattle.listing.specs.declared.Step.the-variants as step
 use Rattle.listing.specs.declared.Stop.{Stop}
 use Rattle.listing.specs.declared.Stop.the-variants as stop
-use Rattle.listing.specs.Steps.{last-place, stepped, next}
+use Rattle.listing.specs.Steps.{last-place, stepped, next-line}
 use Rattle.listing.specs.Parts.{Filled, filled, no-line, behind, filled-by, fill, list-part}
 use Rattle.listing.proofs.StepFacts.{Line-facts, Fact, answer-facts}
 
@@ -45,7 +45,7 @@ module _ (xs ys : List ℕ) {n : ℕ} (l : ℕ) (e : length xs ≡ n) where
 -- STEPS THAT ARE ENOUGH
 
 -- a step that answered a line took a byte or more
-fewer-left : (w s : List ℕ) (last : Bool) (place : ℕ) (out : List ℕ) {n t l : ℕ} → next w s last place out .step ≡ step.Line t l
+fewer-left : (w s : List ℕ) (last : Bool) (place : ℕ) (out : List ℕ) {n t l : ℕ} → next-line w s last place out .step ≡ step.Line t l
     → length s < suc n → length (drop t s) < n
 unfolding Fact
 fewer-left w s last place out {n} {t} e h =
@@ -53,18 +53,18 @@ fewer-left w s last place out {n} {t} e h =
 
 -- what two ways to go on have alike
 alike : (on on′ : List ℕ → List ℕ → ℕ → List ℕ → Filled) (last : Bool) (w s : List ℕ) (place : ℕ) (out : List ℕ) (r : Step)
-    → next w s last place out .step ≡ r
-    → ((t l : ℕ) → next w s last place out .step ≡ step.Line t l → (v : List ℕ) (p : ℕ) (o : List ℕ) → on v (drop t s) p o ≡ on′ v (drop t s) p o)
-    → filled-by on s place (next w s last place out .words) (next w s last place out .out) r
-    ≡ filled-by on′ s place (next w s last place out .words) (next w s last place out .out) r
+    → next-line w s last place out .step ≡ r
+    → ((t l : ℕ) → next-line w s last place out .step ≡ step.Line t l → (v : List ℕ) (p : ℕ) (o : List ℕ) → on v (drop t s) p o ≡ on′ v (drop t s) p o)
+    → filled-by on s place (next-line w s last place out .words) (next-line w s last place out .out) r
+    ≡ filled-by on′ s place (next-line w s last place out .words) (next-line w s last place out .out) r
 unfolding filled-by
 alike on on′ last w s place out step.Over e rest = refl
 alike on on′ last w s place out step.More e rest = refl
 alike on on′ last w s place out step.Full e rest = refl
 alike on on′ last w s place out (step.Last l) e rest = refl
 alike on on′ last w s place out (step.Line t l) e rest =
-    let o = next w s last place out .out in
-    ap (behind t (take l o)) (rest t l e (next w s last place out .words) (suc place) (drop l o))
+    let o = next-line w s last place out .out in
+    ap (behind t (take l o)) (rest t l e (next-line w s last place out .words) (suc place) (drop l o))
 
 -- more steps than bytes change nothing
 enough : (n m : ℕ) (last : Bool) (w s : List ℕ) (place : ℕ) (out : List ℕ) → length s < n → length s < m
@@ -73,7 +73,7 @@ unfolding fill
 enough zero m last w s place out h k = let z : ⊥ = omega arith in absurd z
 enough (suc n) zero last w s place out h k = let z : ⊥ = omega arith in absurd z
 enough (suc n) (suc m) last w s place out h k =
-    alike (fill n last) (fill m last) last w s place out (next w s last place out .step) refl
+    alike (fill n last) (fill m last) last w s place out (next-line w s last place out .step) refl
     (λ t l e v p o. enough n m last v (drop t s) p o (fewer-left w s last place out e h) (fewer-left w s last place out e k))
 
 -- WHAT WAS DONE BEFORE
@@ -104,8 +104,8 @@ onward-first w s last place out h =
 
 module _ {w₀ s : List ℕ} {last : Bool} {place₀ : ℕ} {out₀ w out : List ℕ} {from at place : ℕ}
     (i : Onward w₀ s last place₀ out₀ w out from at place) {r : Step} {v o : List ℕ}
-    (e : stepped r v o ≡ next w (take (length s - from) (drop from s)) last place (take (length out - at) (drop at out))) where
-  step-there : stepped r v o ≡ next w (drop from s) last place (drop at out)
+    (e : stepped r v o ≡ next-line w (take (length s - from) (drop from s)) last place (take (length out - at) (drop at out))) where
+  step-there : stepped r v o ≡ next-line w (drop from s) last place (drop at out)
   step-there = rw (tail-part from s (i .from-there), tail-part at out (i .at-there)) at e
 
   done : behind from (take at out) (filled-by (fill (length (drop from s)) last) (drop from s) place v o r)

@@ -21,7 +21,7 @@ use Rattle.service.specs.Serves.{Serves, verdict-of}
 use Rattle.invariants.proofs.Records.{whole, whole-taken}
 use Rattle.listing.specs.declared.Step.the-variants.{Over, More, Full, Line, Last}
 use Rattle.lines.specs.Puts.{Puts}
-use Rattle.listing.specs.Steps.{longest-line, last-place, stepped, over-front, line-step, listed, next}
+use Rattle.listing.specs.Steps.{longest-line, last-place, stepped, over-front, line-step, listed, next-line}
 use Rattle.listing.proofs.Nexts.{next-over, next-nothing-yet, next-full, next-more, next-listed}
 use Rattle.lines.proofs.Runs.{puts-front}
 use Rattle.lines.proofs.LineBytes.{line-length}
@@ -84,13 +84,13 @@ unfolding listed
 same-listed b place out x p q e f g = rw (g, f, e, p, q)
 
 module _ (w s : List ℕ) (last : Bool) (place : ℕ) (out : List ℕ) where
-  pub step-over : length s ≡ 0 → last ≡ true → stepped Over w out ≡ next w s last place out
+  pub step-over : length s ≡ 0 → last ≡ true → stepped Over w out ≡ next-line w s last place out
   step-over e p = sym (next-over w s last place out (is-empty s e) p)
 
-  pub step-nothing-yet : length s ≡ 0 → last ≡ false → stepped More w out ≡ next w s last place out
+  pub step-nothing-yet : length s ≡ 0 → last ≡ false → stepped More w out ≡ next-line w s last place out
   step-nothing-yet e p = sym (next-nothing-yet w s last place out (is-empty s e) p)
 
-  pub step-full : (length s ≡ 0 → ⊥) → length out < longest-line → stepped Full w out ≡ next w s last place out
+  pub step-full : (length s ≡ 0 → ⊥) → length out < longest-line → stepped Full w out ≡ next-line w s last place out
   step-full f h = sym (next-full w s last place out (not-empty s f) h)
 
   -- bytes and room are there
@@ -105,7 +105,7 @@ module _ (w s : List ℕ) (last : Bool) (place : ℕ) (out : List ℕ) where
       unfolding verdict-of
       same-answer = ap (λ x. x .answer) (served .verdict)
 
-      pub step-too-short-yet : r .taken ≡ 0 → last ≡ false → stepped More v out ≡ next w s last place out
+      pub step-too-short-yet : r .taken ≡ 0 → last ≡ false → stepped More v out ≡ next-line w s last place out
       step-too-short-yet e p =
           let q = taken-nothing s (sym same-taken ∙ e) in
           ap (λ l. stepped More l out) (served .words ∙ ap (λ o. o .words) (serve-short w s q)) ∙ sym (next-more w s last place out (not-empty s f) h q p)
@@ -117,23 +117,23 @@ module _ (w s : List ℕ) (last : Bool) (place : ℕ) (out : List ℕ) where
         written = puts-front (omega (arith, line-length place (r .answer))) put
 
         line-listed : (b : Bool) → short s ≡ b → (b && not last) ≡ false
-            → stepped (line-step (b || eqb place last-place) (r .taken) l) v o ≡ next w s last place out
+            → stepped (line-step (b || eqb place last-place) (r .taken) l) v o ≡ next-line w s last place out
         line-listed b p q =
             same-listed b place out (serve w s) (same-taken ∙ sym (serve-taken w s)) same-answer (served .words) (omega (arith, put .end-is)) written
             ∙ ap (λ c. listed c place out (serve w s)) (sym p)
             ∙ sym (next-listed w s last place out (not-empty s f) h (rw p q))
 
-        pub step-short-line : r .taken ≡ 0 → last ≡ true → stepped (Last l) v o ≡ next w s last place out
+        pub step-short-line : r .taken ≡ 0 → last ≡ true → stepped (Last l) v o ≡ next-line w s last place out
         unfolding line-step
         step-short-line e p = line-listed true (taken-nothing s (sym same-taken ∙ e)) (simp p)
 
-        pub step-last-line : (r .taken ≡ 0 → ⊥) → place ≡ last-place → stepped (Last l) v o ≡ next w s last place out
+        pub step-last-line : (r .taken ≡ 0 → ⊥) → place ≡ last-place → stepped (Last l) v o ≡ next-line w s last place out
         unfolding line-step
         step-last-line g e =
             let q = line-listed false (taken-something s (λ z. g (same-taken ∙ z))) refl in
             rw (eq-eqb place last-place e) at q
 
-        pub step-line : (r .taken ≡ 0 → ⊥) → (place ≡ last-place → ⊥) → stepped (Line (r .taken) l) v o ≡ next w s last place out
+        pub step-line : (r .taken ≡ 0 → ⊥) → (place ≡ last-place → ⊥) → stepped (Line (r .taken) l) v o ≡ next-line w s last place out
         unfolding line-step
         step-line g e =
             let q = line-listed false (taken-something s (λ z. g (same-taken ∙ z))) refl in

@@ -18,7 +18,7 @@ use Rattle.laws.proofs.Choices.{chosen}
 use Rattle.invariants.proofs.Records.{whole, whole-taken, taken-there}
 use Rattle.listing.specs.declared.Step.{Step}
 use Rattle.listing.specs.declared.Step.the-variants.{Over, More, Full, Line, Last}
-use Rattle.listing.specs.Steps.{longest-line, last-place, stepped, line-step, listed, next}
+use Rattle.listing.specs.Steps.{longest-line, last-place, stepped, line-step, listed, next-line}
 use Rattle.listing.proofs.Nexts.{next-over, next-nothing-yet, next-full, next-more, next-listed}
 use Rattle.lines.proofs.LineBytes.{line-length}
 use Rattle.listing.proofs.StepCases.{serve-taken}
@@ -72,12 +72,12 @@ module _ (w s : List ℕ) (last : Bool) (place : ℕ) (out : List ℕ) where
             place-left = eqb-false place last-place p;
           })
 
-  pub step-facts : Fact s place out (next w s last place out .step)
+  pub step-facts : Fact s place out (next-line w s last place out .step)
   unfolding Fact
   step-facts = go (empty s) refl last refl (ltb (length out) longest-line) refl (short s && not last) refl
     where
       go : (a : Bool) → empty s ≡ a → (b : Bool) → last ≡ b → (c : Bool) → ltb (length out) longest-line ≡ c → (d : Bool)
-          → (short s && not last) ≡ d → Fact s place out (next w s last place out .step)
+          → (short s && not last) ≡ d → Fact s place out (next-line w s last place out .step)
       go true e true l c h d q = rw (next-over w s last place out e l) tt
       go true e false l c h d q = rw (next-nothing-yet w s last place out e l) (few-bytes s e)
       go false e b l true h d q = let f = ltb-true (length out) longest-line h in rw (next-full w s last place out e f) f
@@ -90,6 +90,6 @@ module _ (w s : List ℕ) (last : Bool) (place : ℕ) (out : List ℕ) where
 
 -- the same of an answer that is the step's
 pub answer-facts : (w s : List ℕ) (last : Bool) (place : ℕ) (out : List ℕ) {r t : Step} {v o : List ℕ}
-    → stepped r v o ≡ next w s last place out → r ≡ t → Fact s place out t
+    → stepped r v o ≡ next-line w s last place out → r ≡ t → Fact s place out t
 answer-facts w s last place out e f =
     subst (Fact s place out) (sym (ap (λ x. x .step) e) ∙ f) (step-facts w s last place out)

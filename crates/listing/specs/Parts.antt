@@ -8,7 +8,7 @@ use Rattle.listing.specs.declared.Step.the-variants as step
 use Rattle.listing.specs.declared.Stop.{Stop}
 use Rattle.listing.specs.declared.Stop.the-variants as stop
 use Rattle.listing.specs.declared.Part.{Part}
-use Rattle.listing.specs.Steps.{next}
+use Rattle.listing.specs.Steps.{next-line}
 
 -- what listing a part gives: what is answered, and the words and the destination after it
 pub record Filled : Type 0 where
@@ -48,7 +48,7 @@ filled-by on s place w out (step.Last length) = behind 0 (take length out) (no-l
 unfoldable pub fill : ℕ → Bool → List ℕ → List ℕ → ℕ → List ℕ → Filled
 fill zero last w s place out = no-line place stop.More w out
 fill (suc n) last w s place out =
-    let x = next w s last place out in filled-by (fill n last) s place (x .words) (x .out) (x .step)
+    let x = next-line w s last place out in filled-by (fill n last) s place (x .words) (x .out) (x .step)
 
 -- The listing, a part: each line takes a byte or more, so as many steps as bytes and one are enough
 unfoldable pub list-part : Bool → List ℕ → List ℕ → ℕ → List ℕ → Filled

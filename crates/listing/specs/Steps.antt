@@ -41,8 +41,8 @@ listed too-short place out o =
     stepped (line-step (too-short || eqb place last-place) (o .taken) (length text)) (o .words) (over-front text out)
 
 -- The listing, a step: `last` says that no bytes come behind these
-unfoldable pub next : List ℕ → List ℕ → Bool → ℕ → List ℕ → Stepped
-next w s last place out =
+unfoldable pub next-line : List ℕ → List ℕ → Bool → ℕ → List ℕ → Stepped
+next-line w s last place out =
     elim (empty s) [
       | true ↦ elim last [ true ↦ stepped Over w out | false ↦ stepped More w out ]
       | false ↦

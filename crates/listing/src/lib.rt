@@ -1,14 +1,13 @@
 // The listing of document 01: a line for each record, from any parts of the input.
 ghost use mathlib.Core.Path.{_≡_};
 ghost use Rattle.runs.specs.Tested.{Tested};
-ghost use Rattle.listing.specs.Steps.{stepped, next};
+ghost use Rattle.listing.specs.Steps.{stepped, next-line};
 
 mod parts;
 
 use lines::put_line;
 pub use parts::list_part;
 use runs::serve_tested;
-use soundness::sound_and_index;
 
 // What a step comes to.
 pub enum Step {
@@ -45,39 +44,27 @@ pub struct Part {
 // No line is longer.
 const LONGEST_LINE: usize = 35;
 
-// Serves the record at the front of the bytes and writes its line. `last` says that no bytes will come behind these.
-pub fn next_line(words: &mut [u32], bytes: &[u8], last: bool, place: u64, out: &mut [u8]) -> Step
-    ensures { λ r. ⌜ stepped r (now (words .exit)) (now (out .exit)) ≡ next (now (words .entry)) (now (bytes .entry)) last place (now (out .entry)) ⌝ }
-{
-    let mut heads = [0u16; 1021];
-    let mut chains = [0u16; 512];
-    let is_sound = sound_and_index(words, &mut heads, &mut chains);
-    next_tested(
-        words,
-        &mut heads,
-        &mut chains,
-        is_sound,
-        bytes,
-        last,
-        place,
-        out,
-    )
-}
-
-// The same over tables that were tested and indexed before; the test still holds behind it.
-fn next_tested(
-    words: &mut [u32],
-    heads: &mut [u16; 1021],
-    chains: &mut [u16; 512],
+// What stands before a line: the test of the tables, whether no bytes will come behind those that are there, and the line's place.
+struct Setting {
     is_sound: bool,
-    bytes: &[u8],
     last: bool,
     place: u64,
+}
+
+// Serves the record at the front of the bytes and writes its line. The tables were tested and indexed before; the test still holds behind it.
+fn next_line(
+    words: &mut [u32],
+    heads: &mut [u16; 1021],
+    next: &mut [u16; 512],
+    bytes: &[u8],
+    setting: Setting,
     out: &mut [u8],
 ) -> Step
-    requires { ⌜ Tested (now words) (now heads) (now chains) «is_sound» ⌝ }
-    ensures { λ r. ⌜ (stepped r (now (words .exit)) (now (out .exit)) ≡ next (now (words .entry)) (now (bytes .entry)) last place (now (out .entry))) × (Tested (now (words .exit)) (now (heads .exit)) (now (chains .exit)) «is_sound») ⌝ }
+    requires { ⌜ Tested (now words) (now heads) (now next) (setting .«is_sound») ⌝ }
+    ensures { λ r. ⌜ (stepped r (now (words .exit)) (now (out .exit)) ≡ next-line (now (words .entry)) (now (bytes .entry)) (setting .last) (setting .place) (now (out .entry))) × (Tested (now (words .exit)) (now (heads .exit)) (now (next .exit)) (setting .«is_sound»)) ⌝ }
 {
+    let last = setting.last;
+    let place = setting.place;
     if bytes.len() == 0 {
         if last {
             return Step::Over;
@@ -87,7 +74,7 @@ fn next_tested(
     if out.len() < LONGEST_LINE {
         return Step::Full;
     }
-    let verdict = serve_tested(words, heads, chains, bytes, is_sound);
+    let verdict = serve_tested(words, heads, next, bytes, setting.is_sound);
     let taken = verdict.taken;
     let answer = verdict.answer;
     if taken == 0 {

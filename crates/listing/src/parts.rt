@@ -2,9 +2,10 @@
 ghost use mathlib.Core.Path.{_≡_};
 ghost use Rattle.listing.specs.Parts.{filled, list-part};
 use super::Part;
+use super::Setting;
 use super::Step;
 use super::Stop;
-use super::next_tested;
+use super::next_line;
 use soundness::sound_and_index;
 
 // Serves record after record of the bytes and writes their lines. `last` says that no bytes will come behind these.
@@ -12,23 +13,19 @@ pub fn list_part(words: &mut [u32], bytes: &[u8], last: bool, place: u64, out: &
     ensures { λ r. ⌜ filled r (now (words .exit)) (now (out .exit)) ≡ list-part last (now (words .entry)) (now (bytes .entry)) place (now (out .entry)) ⌝ }
 {
     let mut heads = [0u16; 1021];
-    let mut chains = [0u16; 512];
-    let is_sound = sound_and_index(words, &mut heads, &mut chains);
+    let mut next = [0u16; 512];
+    let is_sound = sound_and_index(words, &mut heads, &mut next);
     let mut from = 0;
     let mut at = 0;
     let mut place = place;
     loop {
         let rest = &bytes[from..];
-        let step = next_tested(
-            words,
-            &mut heads,
-            &mut chains,
+        let setting = Setting {
             is_sound,
-            rest,
             last,
             place,
-            &mut out[at..],
-        );
+        };
+        let step = next_line(words, &mut heads, &mut next, rest, setting, &mut out[at..]);
         match step {
             Step::Line { taken, length } => {
                 from += taken;

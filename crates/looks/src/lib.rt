@@ -3,17 +3,16 @@ ghost use Rattle.model.specs.Calls.{looking, check, look, use-of};
 ghost use Rattle.model.specs.Words.{unpack};
 ghost use Rattle.calls.specs.Meets.{Meets};
 ghost use Rattle.accepted.specs.Ready.{call-in, Ready, Walks};
-use accepted::walk_part;
+use accepted::reach;
 use checks::look_at;
 use goals::Stop;
 use model::Answer;
-use processes::is_unlisted;
 use records::Fields;
 
 // Whether a link at the last name is followed, and whether an absence is refused.
 struct Manner {
-    last: bool,
-    required: bool,
+    follow_last: bool,
+    must_exist: bool,
 }
 
 fn look_along(
@@ -25,18 +24,14 @@ fn look_along(
     manner: Manner,
 ) -> Answer
     requires { ⌜ (Ready (now words) (now heads) (now next) (now bytes) fields) × (Walks fields) ⌝ }
-    ensures { λ r. ⌜ Meets (now (words .entry)) (looking (manner .last) (manner .required) (unpack (now (words .entry))) (call-in (now (bytes .entry)) fields)) r (now (words .exit)) ⌝ }
+    ensures { λ r. ⌜ Meets (now (words .entry)) (looking (manner .«follow_last») (manner .«must_exist») (unpack (now (words .entry))) (call-in (now (bytes .entry)) fields)) r (now (words .exit)) ⌝ }
 {
-    if is_unlisted(words, fields.process) {
-        return Answer::Refused(4);
-    }
-    let path = fields.path1;
-    let walk = walk_part(words, heads, next, bytes, path, manner.last);
+    let walk = reach(words, heads, next, bytes, fields, manner.follow_last);
     let stop = walk.stop;
     if let Stop::Refused(number) = stop {
         return Answer::Refused(number);
     }
-    look_at(words, fields.process, walk, manner.required)
+    look_at(words, fields.process, walk, manner.must_exist)
 }
 
 pub fn check(
@@ -49,11 +44,11 @@ pub fn check(
     requires { ⌜ (Ready (now words) (now heads) (now next) (now bytes) fields) × (Walks fields) ⌝ }
     ensures { λ r. ⌜ Meets (now (words .entry)) (check (unpack (now (words .entry))) (call-in (now (bytes .entry)) fields)) r (now (words .exit)) ⌝ }
 {
-    let manner = Manner {
-        last: true,
-        required: false,
+    let checking = Manner {
+        follow_last: true,
+        must_exist: false,
     };
-    look_along(words, heads, next, bytes, fields, manner)
+    look_along(words, heads, next, bytes, fields, checking)
 }
 
 pub fn look(
@@ -66,11 +61,11 @@ pub fn look(
     requires { ⌜ (Ready (now words) (now heads) (now next) (now bytes) fields) × (Walks fields) ⌝ }
     ensures { λ r. ⌜ Meets (now (words .entry)) (look (unpack (now (words .entry))) (call-in (now (bytes .entry)) fields)) r (now (words .exit)) ⌝ }
 {
-    let manner = Manner {
-        last: false,
-        required: false,
+    let looking = Manner {
+        follow_last: false,
+        must_exist: false,
     };
-    look_along(words, heads, next, bytes, fields, manner)
+    look_along(words, heads, next, bytes, fields, looking)
 }
 
 pub fn use_of(
@@ -83,9 +78,9 @@ pub fn use_of(
     requires { ⌜ (Ready (now words) (now heads) (now next) (now bytes) fields) × (Walks fields) ⌝ }
     ensures { λ r. ⌜ Meets (now (words .entry)) (use-of (unpack (now (words .entry))) (call-in (now (bytes .entry)) fields)) r (now (words .exit)) ⌝ }
 {
-    let manner = Manner {
-        last: true,
-        required: true,
+    let using = Manner {
+        follow_last: true,
+        must_exist: true,
     };
-    look_along(words, heads, next, bytes, fields, manner)
+    look_along(words, heads, next, bytes, fields, using)
 }

@@ -11,7 +11,13 @@ use entries::add_entry;
 use goals::Walk;
 use goals::is_absent;
 use goals::node_of;
+use model::ABSENT;
 use model::Answer;
+use model::HELD_BY_ANOTHER;
+use model::NO_NAME_ROW;
+use model::NO_HOLD_ROW;
+use model::PRESENT;
+use model::WRONG_KIND;
 use plans::lacks_room;
 use plans::plan_holds;
 use refusals::is_blocked;
@@ -25,23 +31,23 @@ pub fn link_at(words: &mut [u32], process: u16, walk: Walk, old: Walk) -> Answer
     ensures { λ r. ⌜ Meets (now (words .entry)) (link-at (unpack (now (words .entry))) process (goal-of walk) (goal-of old)) r (now (words .exit)) ⌝ }
 {
     if is_absent(old) {
-        return Answer::Refused(10);
+        return Answer::Refused(ABSENT);
     }
     if is_present(walk) {
-        return Answer::Refused(11);
+        return Answer::Refused(PRESENT);
     }
     if leads_to_directory(words, old) {
-        return Answer::Refused(12);
+        return Answer::Refused(WRONG_KIND);
     }
     if is_blocked(words, process, walk) {
-        return Answer::Refused(14);
+        return Answer::Refused(HELD_BY_ANOTHER);
     }
     if lacks_entry_row(words) {
-        return Answer::Refused(15);
+        return Answer::Refused(NO_NAME_ROW);
     }
     let plan = plan_holds(words, process, walk);
     if lacks_room(words, plan) {
-        return Answer::Refused(16);
+        return Answer::Refused(NO_HOLD_ROW);
     }
     let node = node_of(old);
     take_holds(words, process, walk, plan);

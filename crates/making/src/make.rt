@@ -11,6 +11,10 @@ use edits::set_node;
 use entries::add_entry;
 use goals::Walk;
 use model::Answer;
+use model::HELD_BY_ANOTHER;
+use model::NO_NAME_ROW;
+use model::NO_HOLD_ROW;
+use model::PRESENT;
 use plans::lacks_room;
 use plans::plan_holds;
 use refusals::is_blocked;
@@ -24,17 +28,17 @@ pub fn make_at(words: &mut [u32], process: u16, walk: Walk, kind: u8, target: &[
     ensures { λ r. ⌜ Meets (now (words .entry)) (make-at kind (now (target .entry)) (unpack (now (words .entry))) process (goal-of walk)) r (now (words .exit)) ⌝ }
 {
     if is_present(walk) {
-        return Answer::Refused(11);
+        return Answer::Refused(PRESENT);
     }
     if is_blocked(words, process, walk) {
-        return Answer::Refused(14);
+        return Answer::Refused(HELD_BY_ANOTHER);
     }
     if lacks_rows(words) {
-        return Answer::Refused(15);
+        return Answer::Refused(NO_NAME_ROW);
     }
     let plan = plan_holds(words, process, walk);
     if lacks_room(words, plan) {
-        return Answer::Refused(16);
+        return Answer::Refused(NO_HOLD_ROW);
     }
     let row = free_node_row(words);
     let node = (row + 1) as u16;

@@ -16,6 +16,9 @@ use edits::set_hold;
 use goals::Stop;
 use goals::Walk;
 use rows::Block;
+use rows::ELEMENT;
+use rows::END;
+use rows::HOLD_ROWS;
 use rows::HoldRow;
 use rows::hold_directory;
 use rows::hold_name;
@@ -56,14 +59,14 @@ fn row_of(plan: Plan, i: usize) -> HoldRow
     rows[i]
 }
 
-fn is_planned(plan: Plan, h: HoldRow) -> bool
-    requires { ⌜ (Planned plan) × (Named (h .name)) ⌝ }
-    ensures { λ r. ⌜ r ≡ any (same-hold (hold-of h)) (planned-holds plan) ⌝ }
+fn is_planned(plan: Plan, hold: HoldRow) -> bool
+    requires { ⌜ (Planned plan) × (Named (hold .name)) ⌝ }
+    ensures { λ r. ⌜ r ≡ any (same-hold (hold-of hold)) (planned-holds plan) ⌝ }
 {
-    let n = plan.count;
+    let count = plan.count;
     let mut i = 0;
-    while i < n {
-        if same_holds(h, row_of(plan, i)) {
+    while i < count {
+        if same_holds(hold, row_of(plan, i)) {
             return true;
         }
         i += 1;
@@ -72,21 +75,21 @@ fn is_planned(plan: Plan, h: HoldRow) -> bool
 }
 
 // The plan with one hold more, where it is lacking.
-fn wish(words: &[u32], plan: Plan, h: HoldRow) -> Plan
-    requires { ⌜ (Stands (now words)) × ((Planned plan) × ((plan .count < 9) × (Fine h))) ⌝ }
-    ensures { λ r. ⌜ Wished (unpack (now (words .entry)) .holds) plan h r ⌝ }
+fn wish(words: &[u32], plan: Plan, hold: HoldRow) -> Plan
+    requires { ⌜ (Stands (now words)) × ((Planned plan) × ((plan .count < 9) × (Fine hold))) ⌝ }
+    ensures { λ r. ⌜ Wished (unpack (now (words .entry)) .holds) plan hold r ⌝ }
 {
-    if has_hold(words, h) {
+    if has_hold(words, hold) {
         return plan;
     }
-    if is_planned(plan, h) {
+    if is_planned(plan, hold) {
         return plan;
     }
-    let n = plan.count;
+    let count = plan.count;
     let mut rows = plan.rows;
-    rows[n] = h;
+    rows[count] = hold;
     Plan {
-        count: n + 1,
+        count: count + 1,
         rows: rows,
     }
 }
@@ -111,19 +114,19 @@ fn plan_elements(words: &[u32], process: u16, walk: Walk) -> Plan
         rows: [none; 9],
     };
     let elements = walk.elements;
-    let n = walk.count;
+    let count = walk.count;
     let mut i = 0;
-    while i < n {
-        let q = elements[i];
-        let name = q.name;
+    while i < count {
+        let place = elements[i];
+        let name = place.name;
         plan = wish(
             words,
             plan,
             HoldRow {
-                directory: q.directory,
+                directory: place.directory,
                 process,
                 name,
-                role: 2,
+                role: ELEMENT,
             },
         );
         i += 1;
@@ -150,7 +153,7 @@ pub fn plan_holds(words: &[u32], process: u16, walk: Walk) -> Plan
                     directory: place.directory,
                     process,
                     name,
-                    role: 1,
+                    role: END,
                 },
             )
         }
@@ -161,20 +164,20 @@ pub fn lacks_room(words: &[u32], plan: Plan) -> bool
     requires { ⌜ (Stands (now words)) × (Planned plan) ⌝ }
     ensures { λ r. ⌜ r ≡ no-room (unpack (now (words .entry))) (planned-holds plan) ⌝ }
 {
-    let n = plan.count;
-    if n == 0 {
+    let count = plan.count;
+    if count == 0 {
         return false;
     }
-    free_hold_rows(words) < n
+    free_hold_rows(words) < count
 }
 
-fn add_hold(words: &mut [u32], h: HoldRow)
-    requires { ⌜ (Stands (now words)) × (Fine h) ⌝ }
-    ensures { λ _. ⌜ Becomes (now (words .exit)) (with-holds (unpack (now (words .entry))) (put free-hold (hold-of h) (unpack (now (words .entry)) .holds))) ⌝ }
+fn add_hold(words: &mut [u32], hold: HoldRow)
+    requires { ⌜ (Stands (now words)) × (Fine hold) ⌝ }
+    ensures { λ _. ⌜ Becomes (now (words .exit)) (with-holds (unpack (now (words .entry))) (put free-hold (hold-of hold) (unpack (now (words .entry)) .holds))) ⌝ }
 {
     let row = free_hold_row(words);
-    if row < 256 {
-        set_hold(words, row, h);
+    if row < HOLD_ROWS {
+        set_hold(words, row, hold);
     }
 }
 
@@ -182,9 +185,9 @@ pub fn add_planned(words: &mut [u32], plan: Plan)
     requires { ⌜ (Stands (now words)) × (Planned plan) ⌝ }
     ensures { λ _. ⌜ Becomes (now (words .exit)) (with-holds (unpack (now (words .entry))) (add-holds (planned-holds plan) (unpack (now (words .entry)) .holds))) ⌝ }
 {
-    let n = plan.count;
+    let count = plan.count;
     let mut i = 0;
-    while i < n {
+    while i < count {
         add_hold(words, row_of(plan, i));
         i += 1;
     }
@@ -196,15 +199,15 @@ pub fn count_of_process(words: &[u32], process: u16) -> usize
     requires { ⌜ Stands (now words) ⌝ }
     ensures { λ r. ⌜ r ≡ count (of-process process) (unpack (now (words .entry)) .holds) ⌝ }
 {
-    let mut n: usize = 0;
+    let mut found: usize = 0;
     let mut i = 0;
-    while i < 256 {
+    while i < HOLD_ROWS {
         if hold_process(words, i) == process {
-            n += 1;
+            found += 1;
         }
         i += 1;
     }
-    n
+    found
 }
 
 fn copy_row(words: &mut [u32], row: usize, parent: u16, child: u16)
@@ -233,7 +236,7 @@ pub fn copy_holds(words: &mut [u32], parent: u16, child: u16)
     ensures { λ _. ⌜ Becomes (now (words .exit)) (with-holds (unpack (now (words .entry))) (add-holds (copies parent child (unpack (now (words .entry)) .holds)) (unpack (now (words .entry)) .holds))) ⌝ }
 {
     let mut i = 0;
-    while i < 256 {
+    while i < HOLD_ROWS {
         copy_row(words, i, parent, child);
         i += 1;
     }

@@ -1,4 +1,4 @@
-// Processes listed and dropped, and the tests that calls 1 to 4 share.
+// Processes listed and dropped, and the tests of their table.
 ghost use mathlib.Core.Path.{_≡_};
 ghost use Prim.Native.Nat.{_≤_, _<_};
 ghost use Rattle.model.specs.Tables.{no-process, is-process};
@@ -8,6 +8,7 @@ ghost use Rattle.laws.specs.Clears.{clear-at};
 ghost use Rattle.rows.specs.Stands.{Stands, Becomes, with-processes};
 use edits::clear_process;
 use edits::set_process;
+use rows::PROCESS_ROWS;
 use rows::process_number;
 use search::free_process_row;
 use search::is_listed;
@@ -23,7 +24,7 @@ pub fn lacks_process_row(words: &[u32]) -> bool
     requires { ⌜ Stands (now words) ⌝ }
     ensures { λ r. ⌜ r ≡ no-free-process (unpack (now (words .entry))) ⌝ }
 {
-    free_process_row(words) == 64
+    free_process_row(words) == PROCESS_ROWS
 }
 
 pub fn add_process(words: &mut [u32], process: u16, user: u16)
@@ -31,7 +32,7 @@ pub fn add_process(words: &mut [u32], process: u16, user: u16)
     ensures { λ _. ⌜ Becomes (now (words .exit)) (with-processes (unpack (now (words .entry))) (add-process process user (unpack (now (words .entry)) .processes))) ⌝ }
 {
     let row = free_process_row(words);
-    if row < 64 {
+    if row < PROCESS_ROWS {
         set_process(words, row, process, user);
     }
 }
@@ -50,7 +51,7 @@ pub fn drop_process(words: &mut [u32], process: u16)
     ensures { λ _. ⌜ Becomes (now (words .exit)) (with-processes (unpack (now (words .entry))) (drop-process process (unpack (now (words .entry)) .processes))) ⌝ }
 {
     let mut i = 0;
-    while i < 64 {
+    while i < PROCESS_ROWS {
         drop_if_process(words, i, process);
         i += 1;
     }

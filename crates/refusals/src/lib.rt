@@ -13,6 +13,9 @@ use goals::node_of;
 use holds::entry_held;
 use holds::inside_held;
 use holds::is_root;
+use rows::DIRECTORY;
+use rows::ENTRY_ROWS;
+use rows::NODE_ROWS;
 use rows::node_kind;
 use search::free_entry_row;
 use search::free_node_row;
@@ -27,7 +30,7 @@ pub fn leads_to_directory(words: &[u32], walk: Walk) -> bool
     requires { ⌜ Stands (now words) ⌝ }
     ensures { λ r. ⌜ r ≡ is-directory (unpack (now (words .entry)) .nodes) (goal-of walk .node) ⌝ }
 {
-    node_kind(words, node_of(walk)) == 2
+    node_kind(words, node_of(walk)) == DIRECTORY
 }
 
 fn stops_at_root(walk: Walk) -> bool
@@ -78,14 +81,14 @@ pub fn lacks_entry_row(words: &[u32]) -> bool
     requires { ⌜ Stands (now words) ⌝ }
     ensures { λ r. ⌜ r ≡ no-free-entry (unpack (now (words .entry))) ⌝ }
 {
-    free_entry_row(words) == 512
+    free_entry_row(words) == ENTRY_ROWS
 }
 
 fn lacks_node_row(words: &[u32]) -> bool
     requires { ⌜ Stands (now words) ⌝ }
     ensures { λ r. ⌜ r ≡ no-free-node (unpack (now (words .entry))) ⌝ }
 {
-    free_node_row(words) == 256
+    free_node_row(words) == NODE_ROWS
 }
 
 pub fn lacks_rows(words: &[u32]) -> bool

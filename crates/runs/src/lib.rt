@@ -1,8 +1,9 @@
 // Records served over lent tables, which are tested once: sound tables stay sound.
 ghost use mathlib.Core.Path.{_≡_};
 ghost use mathlib.Core.Bool.{true, false};
+ghost use Prim.Native.Nat.{_<_};
 ghost use Rattle.model.specs.Calls.{step};
-ghost use Rattle.model.specs.Answers.{answer-slot};
+ghost use Rattle.model.specs.Answers.{answer-number, number-of, word-number};
 ghost use Rattle.model.specs.Serve.{judged, run};
 ghost use Rattle.model.specs.Sound.{sound};
 ghost use Rattle.model.specs.Words.{unpack};
@@ -18,15 +19,22 @@ use accepted::taken_of;
 use dispatch::dispatch;
 use index::index_entries;
 use model::Answer;
+use model::SHORT_RECORD;
+use model::UNSOUND;
 use model::Verdict;
 use records::Fields;
 use records::Reading;
 use records::read;
 use soundness::sound_and_index;
 
-const UNSOUND: u8 = 1;
+// The words of an answer as numbers.
+const HELD: u64 = 0;
 
-const TOO_SHORT: u8 = 17;
+const SEEN: u64 = 1;
+
+pub const DONE: u64 = 2;
+
+pub const REFUSED: u64 = 3;
 
 const FIRST_CREATION: u32 = 8;
 
@@ -52,22 +60,30 @@ pub fn serve_run(words: &mut [u32], records: &[u8], answers: &mut [u64]) -> Run
             return Run { served, taken };
         }
         let answer = serve_found(words, &mut heads, &mut next, bytes, found, is_sound);
-        answers[served] = slot_of(answer);
+        answers[served] = told_answer(answer, 0);
         taken += taken_of(found);
         served += 1;
     }
     Run { served, taken }
 }
 
-// An answer in one number: its number in the lower 32 bits, its word in the two above.
-fn slot_of(answer: Answer) -> u64
-    ensures { λ r. ⌜ r ≡ answer-slot answer ⌝ }
+// An answer as one number: the answer's number in the lower 32 bits, its word in the two above, and the bytes taken above those.
+pub fn told(word: u64, number: u64, taken: u64) -> u64
+    requires { ⌜ (word < 4) × (number < 4294967296) × (taken < 65536) ⌝ }
+    ensures { λ r. ⌜ r ≡ answer-number word number taken ⌝ }
+{
+    taken * 17179869184 + word * 4294967296 + number
+}
+
+pub fn told_answer(answer: Answer, taken: u64) -> u64
+    requires { ⌜ taken < 65536 ⌝ }
+    ensures { λ r. ⌜ r ≡ answer-number (word-number answer) (number-of answer) taken ⌝ }
 {
     match answer {
-        Answer::Held(node) => node as u64,
-        Answer::Seen(node) => 4294967296 + node as u64,
-        Answer::Done(number) => 8589934592 + number as u64,
-        Answer::Refused(number) => 12884901888 + number as u64,
+        Answer::Held(node) => told(HELD, node as u64, taken),
+        Answer::Seen(node) => told(SEEN, node as u64, taken),
+        Answer::Done(number) => told(DONE, number as u64, taken),
+        Answer::Refused(number) => told(REFUSED, number as u64, taken),
     }
 }
 
@@ -85,7 +101,7 @@ pub fn serve_tested(
     let found = read(bytes);
     let taken = taken_of(found);
     if is_cut_short(found) {
-        let answer = Answer::Refused(TOO_SHORT);
+        let answer = Answer::Refused(SHORT_RECORD);
         return Verdict { answer, taken };
     }
     let answer = serve_found(words, heads, next, bytes, found, is_sound);

@@ -8,14 +8,12 @@ use accepted::is_cut_short;
 use accepted::taken_of;
 use dispatch::dispatch;
 use model::Answer;
+use model::SHORT_RECORD;
+use model::UNSOUND;
 use model::Verdict;
 use records::Reading;
 use records::read;
 use soundness::sound_and_index;
-
-const UNSOUND: u8 = 1;
-
-const TOO_SHORT: u8 = 17;
 
 // Serves the record at the front of the bytes: the answer and the bytes taken. A refusal changes no word.
 pub fn serve(words: &mut [u32], record: &[u8]) -> Verdict
@@ -33,7 +31,7 @@ fn judge(words: &mut [u32], bytes: &[u8], found: Reading) -> Answer
     ensures { λ r. ⌜ Meets (now (words .entry)) (judged (now (words .entry)) (now (bytes .entry))) r (now (words .exit)) ⌝ }
 {
     if is_cut_short(found) {
-        return Answer::Refused(TOO_SHORT);
+        return Answer::Refused(SHORT_RECORD);
     }
     let mut heads = [0u16; 1021];
     let mut next = [0u16; 512];

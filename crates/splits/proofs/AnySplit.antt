@@ -15,7 +15,7 @@ use Rattle.model.specs.Serve.{serve, fresh-words}
 use Rattle.model.specs.Listing.{line}
 use Rattle.laws.proofs.Bools.{clash}
 use Rattle.invariants.proofs.Records.{whole, whole-taken}
-use Rattle.listing.specs.Steps.{longest-line, last-place, Stepped, over-front, line-step, listed, next}
+use Rattle.listing.specs.Steps.{longest-line, last-place, Stepped, over-front, line-step, listed, next-line}
 use Rattle.splits.specs.Machine.{Machine, stopped, after-step, run, run-all, given, all-given, started, text-of}
 use Rattle.listing.proofs.Nexts.{next-over, next-nothing-yet, next-more, next-listed}
 use Rattle.splits.proofs.Rests.{rest, rest-of-nothing, rest-past-places, rest-of-short, rest-of-whole}
@@ -148,14 +148,14 @@ fewer-left s n q h = let w = whole s q in rw (whole-taken w) (simp length-drop (
 
 module _ (out : ℕ → List ℕ) (room : (n : ℕ) → longest-line ≤ length (out n)) where
   module _ (last : Bool) (n : ℕ) (m : Machine) where
-    step-is : {x : Stepped} → next (m .words) (m .unread) last (m .place) (out (m .place)) ≡ x
+    step-is : {x : Stepped} → next-line (m .words) (m .unread) last (m .place) (out (m .place)) ≡ x
         → run out last (suc n) m ≡ after-step (run out last n) m (x .words) (x .out) (x .step)
     unfolding run
     step-is e = rw e
 
     -- `|| eqb` comes after the test that bytes are too short
     listed-is : (b : Bool) → short (m .unread) ≡ b → empty (m .unread) ≡ false → (b && not last) ≡ false
-        → next (m .words) (m .unread) last (m .place) (out (m .place)) ≡ line-of (run out last n) m b (out (m .place))
+        → next-line (m .words) (m .unread) last (m .place) (out (m .place)) ≡ line-of (run out last n) m b (out (m .place))
     unfolding line-of
     listed-is b q e f =
         next-listed (m .words) (m .unread) last (m .place) (out (m .place)) e (room (m .place)) (rw q f)

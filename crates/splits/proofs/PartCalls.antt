@@ -17,7 +17,7 @@ use Rattle.laws.proofs.Bools.{clash}
 use Rattle.listing.specs.declared.Stop.{Stop}
 use Rattle.listing.specs.declared.Stop.the-variants.{Over, More, Full}
 use Rattle.listing.specs.declared.Part.{Part}
-use Rattle.listing.specs.Steps.{longest-line, last-place, Stepped, over-front, line-step, listed, next}
+use Rattle.listing.specs.Steps.{longest-line, last-place, Stepped, over-front, line-step, listed, next-line}
 use Rattle.listing.specs.Parts.{Filled, filled, no-line, behind, filled-by, fill, list-part}
 use Rattle.splits.specs.Machine.{Machine, stopped}
 use Rattle.listing.proofs.Nexts.{next-over, next-nothing-yet, next-full, next-more, next-listed}
@@ -120,7 +120,7 @@ module _ (last : Bool) (later : List ℕ) (ends : Ends last later) where
       (fill-keeps n (moved m))
     where
       -- by what the step gives
-      by : {x : Stepped} {y : Filled} → next (m .words) (m .unread) last (m .place) out ≡ x
+      by : {x : Stepped} {y : Filled} → next-line (m .words) (m .unread) last (m .place) out ≡ x
           → filled-by (fill n last) (m .unread) (m .place) (x .words) (x .out) (x .step) ≡ y → Keeps m later (after-call m y)
           → Keeps m later (after-call m (fill (suc n) last (m .words) (m .unread) (m .place) out))
       by e f k =
@@ -131,7 +131,7 @@ module _ (last : Bool) (later : List ℕ) (ends : Ends last later) where
       nothing why e = waits m later (m .words) why out e o h refl
 
       listed-is : (d : Bool) → short (m .unread) ≡ d → empty (m .unread) ≡ false → longest-line ≤ length out → (d && not last) ≡ false
-          → next (m .words) (m .unread) last (m .place) out ≡ line-of (fill n last) m d out
+          → next-line (m .words) (m .unread) last (m .place) out ≡ line-of (fill n last) m d out
       listed-is d q p f k =
           next-listed (m .words) (m .unread) last (m .place) out p f (rw q k)
           ∙ ap (λ c. listed c (m .place) out (serve (m .words) (m .unread))) q

@@ -7,7 +7,7 @@ use lib.ListN.{length, take, drop}
 use Rattle.model.specs.Serve.{fresh-words}
 use Rattle.listing.specs.declared.Step.{Step}
 use Rattle.listing.specs.declared.Step.the-variants.{Over, More, Full, Line, Last}
-use Rattle.listing.specs.Steps.{next}
+use Rattle.listing.specs.Steps.{next-line}
 
 -- the tables' words, the bytes that no line was written for, the next line's place, whether the listing is over, and the text so far
 pub record Machine : Type 0 where
@@ -42,7 +42,7 @@ module _ (out : ℕ → List ℕ) where
   unfoldable pub run : Bool → ℕ → Machine → Machine
   run last zero m = m
   run last (suc n) m =
-      let x = next (m .words) (m .unread) last (m .place) (out (m .place)) in after-step (run last n) m (x .words) (x .out) (x .step)
+      let x = next-line (m .words) (m .unread) last (m .place) (out (m .place)) in after-step (run last n) m (x .words) (x .out) (x .step)
 
   -- steps until more bytes are needed or the listing is over: each line takes a byte or more
   unfoldable pub run-all : Bool → Machine → Machine

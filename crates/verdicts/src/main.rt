@@ -8,6 +8,7 @@ use libc::STDIN_FILENO;
 use libc::STDOUT_FILENO;
 use listing::Part;
 use listing::Stop;
+use rows::WORD_COUNT;
 
 // What is kept from turn to turn: how many bytes at the buffer's front are unread, and the place of the next line.
 struct Standing {
@@ -106,7 +107,7 @@ fn list_all(words: &mut [u32], bytes: &mut [u8], out: &mut [u8]) {
 }
 
 fn main() {
-    let mut words = [0u32; 8512];
+    let mut words = [0u32; WORD_COUNT];
     fresh::fresh(&mut words);
     let mut bytes = [0u8; 12288];
     let mut out = io::large_buffer();

@@ -23,18 +23,18 @@ use Rattle.walk.proofs.Ends.{Ends, link-ends}
 module _ (entries : List model-tables.Entry) (nodes : List Node) (walkable : Walkable entries nodes) where
   -- ONE NAME, by the kind of the node that it leads to
 
-  module _ (last : Bool) (k : ℕ) (q : model-tables.Place) (rest : List Name) where
+  module _ (follow-last : Bool) (k : ℕ) (q : model-tables.Place) (rest : List Name) where
     -- the names behind a first one
     abbrev behind : ℕ → Outcome Goal
-    behind n = walk-names entries nodes last (jump-within entries nodes last k) n rest
+    behind n = walk-names entries nodes follow-last (jump-within entries nodes follow-last k) n rest
 
     -- the walk from the first name on
     abbrev pub from-here : Outcome Goal
-    from-here = walk-within entries nodes last k (q .directory) (q .name ∷ rest)
+    from-here = walk-within entries nodes follow-last k (q .directory) (q .name ∷ rest)
 
-    one-name : from-here ≡ turn (jump-within entries nodes last k) behind last q (found entries nodes q) rest
+    one-name : from-here ≡ turn (jump-within entries nodes follow-last k) behind follow-last q (found entries nodes q) rest
     unfolding walk-names
-    one-name = within-names entries nodes last k (q .directory) (q .name ∷ rest)
+    one-name = within-names entries nodes follow-last k (q .directory) (q .name ∷ rest)
 
     -- a link at the end that is followed, or a link with names behind it
     link-there : node-at nodes (lookup entries q) .kind ≡ a-link → found entries nodes q ≡ link (lookup entries q) (node-at nodes (lookup entries q) .target)
@@ -47,13 +47,13 @@ module _ (entries : List model-tables.Entry) (nodes : List Node) (walkable : Wal
         go _ (of-link a) = refl
 
     -- the last name, where nothing is followed
-    pub stops-there : rest ≡ [] → (node-at nodes (lookup entries q) .kind ≢ a-link) ⊎ (last ≡ false) → from-here ≡ here q (lookup entries q)
+    pub stops-there : rest ≡ [] → (node-at nodes (lookup entries q) .kind ≢ a-link) ⊎ (follow-last ≡ false) → from-here ≡ here q (lookup entries q)
     unfolding turn
-    stops-there e no-link = one-name ∙ go last rest e no-link (found entries nodes q) (found-stood entries nodes walkable q)
+    stops-there e no-link = one-name ∙ go follow-last rest e no-link (found entries nodes q) (found-stood entries nodes walkable q)
       where
         go : (l : Bool) (ns : List Name) → ns ≡ [] → (node-at nodes (lookup entries q) .kind ≢ a-link) ⊎ (l ≡ false) → (f : Found) →
             Stood (lookup entries q) (node-at nodes (lookup entries q)) f →
-            turn (jump-within entries nodes last k) behind l q f ns ≡ here q (lookup entries q)
+            turn (jump-within entries nodes follow-last k) behind l q f ns ≡ here q (lookup entries q)
         go l (n ∷ ns) e c f s = let z : _≡_ {A = ℕ} 0 1 = cc in absurd (omega arith)
         go l [] e c _ (absent z) = ap (here q) (sym z)
         go l [] e c _ (of-file a) = refl
@@ -62,14 +62,14 @@ module _ (entries : List model-tables.Entry) (nodes : List Node) (walkable : Wal
         go true [] e (inr not-followed) _ (of-link a) = absurd (true≢false not-followed)
         go false [] e c _ (of-link a) = refl
 
-    pub follows-last : rest ≡ [] → last ≡ true → node-at nodes (lookup entries q) .kind ≡ a-link →
+    pub follows-last : rest ≡ [] → follow-last ≡ true → node-at nodes (lookup entries q) .kind ≡ a-link →
         from-here ≡ follow (jump-within entries nodes true k) q (node-at nodes (lookup entries q) .target) []
     unfolding turn
-    follows-last e f kind = one-name ∙ ap (λ (x : Found). turn (jump-within entries nodes last k) behind last q x rest) (link-there kind) ∙ rw (e, f)
+    follows-last e f kind = one-name ∙ ap (λ (x : Found). turn (jump-within entries nodes follow-last k) behind follow-last q x rest) (link-there kind) ∙ rw (e, f)
 
     -- a name with others behind it
     pub goes-on : rest ≢ [] → node-at nodes (lookup entries q) .kind ≢ a-link →
-        from-here ≡ entered entries nodes last k (lookup entries q) rest
+        from-here ≡ entered entries nodes follow-last k (lookup entries q) rest
     unfolding turn
     goes-on more no-link = one-name ∙ go rest more (found entries nodes q) (found-stood entries nodes walkable q)
       where
@@ -77,30 +77,30 @@ module _ (entries : List model-tables.Entry) (nodes : List Node) (walkable : Wal
         x = lookup entries q
 
         go : (ns : List Name) → ns ≢ [] → (f : Found) → Stood x (node-at nodes x) f →
-            turn (jump-within entries nodes last k) (λ n. walk-names entries nodes last (jump-within entries nodes last k) n ns) last q f ns
-            ≡ entered entries nodes last k x ns
+            turn (jump-within entries nodes follow-last k) (λ n. walk-names entries nodes follow-last (jump-within entries nodes follow-last k) n ns) follow-last q f ns
+            ≡ entered entries nodes follow-last k x ns
         go [] e f s = absurd (e refl)
-        go (n ∷ ns) e _ (absent z) = sym (enter-nothing entries nodes last k x (n ∷ ns) (no-kind nodes x z))
-        go (n ∷ ns) e _ (of-file a) = sym (enter-other entries nodes last k x (n ∷ ns) (λ z. omega arith) (λ z. omega arith))
+        go (n ∷ ns) e _ (absent z) = sym (enter-nothing entries nodes follow-last k x (n ∷ ns) (no-kind nodes x z))
+        go (n ∷ ns) e _ (of-file a) = sym (enter-other entries nodes follow-last k x (n ∷ ns) (λ z. omega arith) (λ z. omega arith))
         go (n ∷ ns) e _ (of-directory a) =
-            sym (enter-directory entries nodes last k x (n ∷ ns) (directory-kind nodes x a) ∙ within-names entries nodes last k x (n ∷ ns))
+            sym (enter-directory entries nodes follow-last k x (n ∷ ns) (directory-kind nodes x a) ∙ within-names entries nodes follow-last k x (n ∷ ns))
         go (n ∷ ns) e _ (of-link a) = absurd (no-link a)
 
     pub follows-on : rest ≢ [] → is-directory nodes (q .directory) ≡ true → node-at nodes (lookup entries q) .kind ≡ a-link →
         from-here
-        ≡ (follow (jump-within entries nodes true k) q (node-at nodes (lookup entries q) .target) [] >>= onward entries nodes last k rest)
+        ≡ (follow (jump-within entries nodes true k) q (node-at nodes (lookup entries q) .target) [] >>= onward entries nodes follow-last k rest)
     unfolding turn
     follows-on more d kind =
-        one-name ∙ ap (λ (f : Found). turn (jump-within entries nodes last k) behind last q f rest) (link-there kind) ∙ go rest more
+        one-name ∙ ap (λ (f : Found). turn (jump-within entries nodes follow-last k) behind follow-last q f rest) (link-there kind) ∙ go rest more
       where
         target : List ℕ
         target = node-at nodes (lookup entries q) .target
 
         go : (ns : List Name) → ns ≢ [] →
-            turn (jump-within entries nodes last k) (λ n. walk-names entries nodes last (jump-within entries nodes last k) n ns) last q (link (lookup entries q) target) ns
-            ≡ (follow (jump-within entries nodes true k) q target [] >>= onward entries nodes last k ns)
+            turn (jump-within entries nodes follow-last k) (λ n. walk-names entries nodes follow-last (jump-within entries nodes follow-last k) n ns) follow-last q (link (lookup entries q) target) ns
+            ≡ (follow (jump-within entries nodes true k) q target [] >>= onward entries nodes follow-last k ns)
         go [] h = absurd (h refl)
-        go (m ∷ others) h = follow-legs entries nodes walkable last k (jump-legs entries nodes walkable k) m others q target [] d
+        go (m ∷ others) h = follow-legs entries nodes walkable follow-last k (jump-legs entries nodes walkable k) m others q target [] d
 
     pub link-ends-there : node-at nodes (lookup entries q) .kind ≡ a-link →
         Ends k (follow (jump-within entries nodes true k) q (node-at nodes (lookup entries q) .target) [])
@@ -112,13 +112,13 @@ pub stopped-at : (t : Trail) (q : model-tables.Place) (n : ℕ) → record { sto
 unfolding continued here stop-of
 stopped-at t q n = let e : t .count ≡ t .count + 0 = omega arith in λ i. record { stop = Entry (place-row q) n; count = e i; elements = t .elements }
 
-pub stopped-by-slash : (entries : List model-tables.Entry) (nodes : List Node) (last : Bool) (k d : ℕ) (ns : List Name) (t : Trail) → ns ≡ [] →
-    record { stop = Root; count = t .count; elements = t .elements } ≡ continued t (walk-within entries nodes last k d ns)
+pub stopped-by-slash : (entries : List model-tables.Entry) (nodes : List Node) (follow-last : Bool) (k d : ℕ) (ns : List Name) (t : Trail) → ns ≡ [] →
+    record { stop = Root; count = t .count; elements = t .elements } ≡ continued t (walk-within entries nodes follow-last k d ns)
 unfolding continued walk-names stop-of
-stopped-by-slash entries nodes last k d ns t none-left =
+stopped-by-slash entries nodes follow-last k d ns t none-left =
     let e : t .count ≡ t .count + 0 = omega arith in
     (λ i. record { stop = Root; count = e i; elements = t .elements })
-    ∙ ap (continued t) (sym (within-names entries nodes last k d [])) ∙ rw none-left
+    ∙ ap (continued t) (sym (within-names entries nodes follow-last k d [])) ∙ rw none-left
 
 pub refusal : (t : Trail) (n : ℕ) → walked (refused n) ≡ continued t (refused n)
 unfolding continued

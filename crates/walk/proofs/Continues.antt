@@ -96,17 +96,17 @@ reached t k (granted g) r ends e s =
 
 -- THE NEXT LEG
 
-module _ (entries : List model-tables.Entry) (nodes : List model-tables.Node) (last : Bool) (rest : List Name) where
+module _ (entries : List model-tables.Entry) (nodes : List model-tables.Node) (follow-last : Bool) (rest : List Name) where
   pub next-leg : (t : Trail) (o : Outcome Goal) (r : Walk) → t .count ≤ 8 → (h : Reached t (8 - t .count) o r) →
-      continued (record { count = r .count; elements = r .elements }) (entered entries nodes last (8 - r .count) (node-at-end (r .stop)) rest)
-      ≡ continued t (o >>= onward entries nodes last (8 - t .count) rest)
+      continued (record { count = r .count; elements = r .elements }) (entered entries nodes follow-last (8 - r .count) (node-at-end (r .stop)) rest)
+      ≡ continued t (o >>= onward entries nodes follow-last (8 - t .count) rest)
   unfolding _>>=_ onward trail-after
   next-leg t o r few h =
       let left : 8 - r .count ≡ 8 - t .count - length (h .goal .elements) = let c = h .count in omega arith in
       let trail : _≡_ {A = Trail} (record { count = r .count; elements = r .elements }) (trail-after t (h .goal .elements)) = λ i. record { count = h .count i; elements = h .elements i } in
-      (λ i. continued (trail i) (entered entries nodes last (left i) (h .node i) rest))
-      ∙ continued-leg t (h .goal .elements) (entered entries nodes last (8 - t .count - length (h .goal .elements)) (h .goal .node) rest)
-      ∙ ap (λ (p : Outcome Goal). continued t (p >>= onward entries nodes last (8 - t .count) rest)) (sym (h .granted-with))
+      (λ i. continued (trail i) (entered entries nodes follow-last (left i) (h .node i) rest))
+      ∙ continued-leg t (h .goal .elements) (entered entries nodes follow-last (8 - t .count - length (h .goal .elements)) (h .goal .node) rest)
+      ∙ ap (λ (p : Outcome Goal). continued t (p >>= onward entries nodes follow-last (8 - t .count) rest)) (sym (h .granted-with))
 
 -- A WHOLE WALK
 

@@ -51,18 +51,18 @@ module _ (entries : List Entry) (nodes : List Node) (walkable : Walkable entries
 
   -- jumps with k links left
   abbrev Jumps-end : Bool → ℕ → Type 0
-  Jumps-end last k = (q : Place) (d : ℕ) (ns : List Name) → (ns ≡ [] → d ≡ 1) → Ends k (after-link q (jump-within entries nodes last k d ns))
+  Jumps-end follow-last k = (q : Place) (d : ℕ) (ns : List Name) → (ns ≡ [] → d ≡ 1) → Ends k (after-link q (jump-within entries nodes follow-last k d ns))
 
-  module _ (last : Bool) (k : ℕ) (jumps : Jumps-end last k) where
+  module _ (follow-last : Bool) (k : ℕ) (jumps : Jumps-end follow-last k) where
     follow-ends : (q : Place) (n : ℕ) (target : List ℕ) (rest : List Name) → found entries nodes q ≡ link n target →
-        Ends k (follow (jump-within entries nodes last k) q target rest)
+        Ends k (follow (jump-within entries nodes follow-last k) q target rest)
     unfolding follow
     follow-ends q n target rest e =
         jumps q (start (q .directory) target) (names target ++ rest)
         (λ f. no-names-from-root (q .directory) target (found-target entries nodes walkable q n target e .long) (nothing-joined (names target) rest f))
 
     turn-ends : (on : ℕ → Outcome Goal) (q : Place) (f : Found) (rest : List Name) → found entries nodes q ≡ f →
-        ((n : ℕ) → (rest ≡ [] → ⊥) → Ends k (on n)) → Ends k (turn (jump-within entries nodes last k) on last q f rest)
+        ((n : ℕ) → (rest ≡ [] → ⊥) → Ends k (on n)) → Ends k (turn (jump-within entries nodes follow-last k) on follow-last q f rest)
     unfolding turn Ends
     turn-ends on q nothing [] e h = here-ends k q 0
     turn-ends on q nothing (next ∷ rest) e h = tt
@@ -71,31 +71,31 @@ module _ (entries : List Entry) (nodes : List Node) (walkable : Walkable entries
     turn-ends on q (directory n) [] e h = here-ends k q n
     turn-ends on q (directory n) (next ∷ rest) e h = h n (λ f. let z : _≡_ {A = ℕ} 0 1 = cc in omega arith)
     turn-ends on q (link n target) (next ∷ rest) e h = follow-ends q n target (next ∷ rest) e
-    turn-ends on q (link n target) [] e h = last-link last
+    turn-ends on q (link n target) [] e h = last-link follow-last
       where
-        last-link : (l : Bool) → Ends k (turn (jump-within entries nodes last k) on l q (link n target) [])
+        last-link : (l : Bool) → Ends k (turn (jump-within entries nodes follow-last k) on l q (link n target) [])
         last-link true = follow-ends q n target [] e
         last-link false = here-ends k q n
 
-    names-end : (d : ℕ) (ns : List Name) → (ns ≡ [] → d ≡ 1) → Ends k (walk-names entries nodes last (jump-within entries nodes last k) d ns)
+    names-end : (d : ℕ) (ns : List Name) → (ns ≡ [] → d ≡ 1) → Ends k (walk-names entries nodes follow-last (jump-within entries nodes follow-last k) d ns)
     unfolding walk-names Ends
     names-end d [] r = record { root = λ e. r refl; few = omega arith }
     names-end d (n ∷ ns) r =
-        turn-ends (λ x. walk-names entries nodes last (jump-within entries nodes last k) x ns) (record { directory = d; name = n })
+        turn-ends (λ x. walk-names entries nodes follow-last (jump-within entries nodes follow-last k) x ns) (record { directory = d; name = n })
         (found entries nodes (record { directory = d; name = n })) ns refl (λ x m. names-end x ns (λ e. absurd (m e)))
 
-  jumps-end : (last : Bool) (k : ℕ) → Jumps-end last k
+  jumps-end : (follow-last : Bool) (k : ℕ) → Jumps-end follow-last k
   unfolding jump-within after-link Ends
-  jumps-end last zero q d ns r = tt
-  jumps-end last (suc k) q d ns r =
-      after-link-ends k q (walk-within entries nodes last k d ns)
-      (rw (within-names entries nodes last k d ns) (names-end last k (jumps-end last k) d ns r))
+  jumps-end follow-last zero q d ns r = tt
+  jumps-end follow-last (suc k) q d ns r =
+      after-link-ends k q (walk-within entries nodes follow-last k d ns)
+      (rw (within-names entries nodes follow-last k d ns) (names-end follow-last k (jumps-end follow-last k) d ns r))
 
   -- a walk with k links to follow, from node 1 where it has no names
-  pub walk-ends : (last : Bool) (k d : ℕ) (ns : List Name) → (ns ≡ [] → d ≡ 1) → Ends k (walk-within entries nodes last k d ns)
-  walk-ends last k d ns r = rw (within-names entries nodes last k d ns) (names-end last k (jumps-end last k) d ns r)
+  pub walk-ends : (follow-last : Bool) (k d : ℕ) (ns : List Name) → (ns ≡ [] → d ≡ 1) → Ends k (walk-within entries nodes follow-last k d ns)
+  walk-ends follow-last k d ns r = rw (within-names entries nodes follow-last k d ns) (names-end follow-last k (jumps-end follow-last k) d ns r)
 
   -- a link followed alone
-  pub link-ends : (last : Bool) (k : ℕ) (q : Place) (n : ℕ) (target : List ℕ) → found entries nodes q ≡ link n target →
-      Ends k (follow (jump-within entries nodes last k) q target [])
-  link-ends last k q n target e = follow-ends last k (jumps-end last k) q n target [] e
+  pub link-ends : (follow-last : Bool) (k : ℕ) (q : Place) (n : ℕ) (target : List ℕ) → found entries nodes q ≡ link n target →
+      Ends k (follow (jump-within entries nodes follow-last k) q target [])
+  link-ends follow-last k q n target e = follow-ends follow-last k (jumps-end follow-last k) q n target [] e

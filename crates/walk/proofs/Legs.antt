@@ -25,81 +25,81 @@ prefixed (q ∷ qs) o = after-link q (prefixed qs o)
 module _ (entries : List Entry) (nodes : List Node) where
   -- the second leg: k links were left before the first
   unfoldable pub onward : Bool → ℕ → List Name → Goal → Outcome Goal
-  onward last k rest g = prefixed (g .elements) (entered entries nodes last (k - length (g .elements)) (g .node) rest)
+  onward follow-last k rest g = prefixed (g .elements) (entered entries nodes follow-last (k - length (g .elements)) (g .node) rest)
 
   -- ENTERING A NODE, by its kind
 
-  pub enter-nothing : (last : Bool) (k n : ℕ) (rest : List Name) → node-at nodes n .kind ≡ 0 → entered entries nodes last k n rest ≡ refused 8
+  pub enter-nothing : (follow-last : Bool) (k n : ℕ) (rest : List Name) → node-at nodes n .kind ≡ 0 → entered entries nodes follow-last k n rest ≡ refused 8
   unfolding entered
-  enter-nothing last k n rest e = simp (eq-eqb (node-at nodes n .kind) 0 e, entered)
+  enter-nothing follow-last k n rest e = simp (eq-eqb (node-at nodes n .kind) 0 e, entered)
 
-  pub enter-other : (last : Bool) (k n : ℕ) (rest : List Name) → (node-at nodes n .kind ≡ 0 → ⊥) → (node-at nodes n .kind ≡ a-directory → ⊥) →
-      entered entries nodes last k n rest ≡ refused 9
+  pub enter-other : (follow-last : Bool) (k n : ℕ) (rest : List Name) → (node-at nodes n .kind ≡ 0 → ⊥) → (node-at nodes n .kind ≡ a-directory → ⊥) →
+      entered entries nodes follow-last k n rest ≡ refused 9
   unfolding entered
-  enter-other last k n rest f g = simp (ne-eqb (node-at nodes n .kind) 0 f, ne-eqb (node-at nodes n .kind) a-directory g, entered)
+  enter-other follow-last k n rest f g = simp (ne-eqb (node-at nodes n .kind) 0 f, ne-eqb (node-at nodes n .kind) a-directory g, entered)
 
-  pub enter-directory : (last : Bool) (k n : ℕ) (rest : List Name) → is-directory nodes n ≡ true →
-      entered entries nodes last k n rest ≡ walk-within entries nodes last k n rest
+  pub enter-directory : (follow-last : Bool) (k n : ℕ) (rest : List Name) → is-directory nodes n ≡ true →
+      entered entries nodes follow-last k n rest ≡ walk-within entries nodes follow-last k n rest
   unfolding entered is-directory
-  enter-directory last k n rest e =
+  enter-directory follow-last k n rest e =
       let used : eqb (node-at nodes n .kind) 0 ≡ false = rw (eqb-true (node-at nodes n .kind) a-directory e) in
       simp (used, e, entered)
 
   -- WALKS AND JUMPS
 
-  pub within-names : (last : Bool) (k d : ℕ) (ns : List Name) →
-      walk-within entries nodes last k d ns ≡ walk-names entries nodes last (jump-within entries nodes last k) d ns
+  pub within-names : (follow-last : Bool) (k d : ℕ) (ns : List Name) →
+      walk-within entries nodes follow-last k d ns ≡ walk-names entries nodes follow-last (jump-within entries nodes follow-last k) d ns
   unfolding walk-within jump-within
-  within-names last zero d ns = refl
-  within-names last (suc k) d ns = refl
+  within-names follow-last zero d ns = refl
+  within-names follow-last (suc k) d ns = refl
 
-  after-link-onward : (last : Bool) (q : Place) (k : ℕ) (rest : List Name) (o : Outcome Goal) →
-      after-link q (o >>= onward last k rest) ≡ (after-link q o >>= onward last (suc k) rest)
+  after-link-onward : (follow-last : Bool) (q : Place) (k : ℕ) (rest : List Name) (o : Outcome Goal) →
+      after-link q (o >>= onward follow-last k rest) ≡ (after-link q o >>= onward follow-last (suc k) rest)
   unfolding after-link _>>=_ onward prefixed
-  after-link-onward last q k rest (refused n) = refl
-  after-link-onward last q k rest (granted g) =
+  after-link-onward follow-last q k rest (refused n) = refl
+  after-link-onward follow-last q k rest (granted g) =
       let e : k - length (g .elements) ≡ suc k - suc (length (g .elements)) = omega arith in
-      ap (λ (j : ℕ). after-link q (prefixed (g .elements) (entered entries nodes last j (g .node) rest))) e
+      ap (λ (j : ℕ). after-link q (prefixed (g .elements) (entered entries nodes follow-last j (g .node) rest))) e
 
   -- THE LAW
 
   -- of jumps with k links left, met at any place
   abbrev Jumps : ℕ → Type 0
   Jumps k =
-      (last : Bool) (q : Place) (s : ℕ) (ns : List Name) (m : Name) (rest : List Name) → is-directory nodes s ≡ true →
-      after-link q (jump-within entries nodes last k s (ns ++ (m ∷ rest)))
-      ≡ (after-link q (jump-within entries nodes true k s ns) >>= onward last k (m ∷ rest))
+      (follow-last : Bool) (q : Place) (s : ℕ) (ns : List Name) (m : Name) (rest : List Name) → is-directory nodes s ≡ true →
+      after-link q (jump-within entries nodes follow-last k s (ns ++ (m ∷ rest)))
+      ≡ (after-link q (jump-within entries nodes true k s ns) >>= onward follow-last k (m ∷ rest))
 
-  module _ (walkable : Walkable entries nodes) (last : Bool) (k : ℕ) (jumps : Jumps k) (m : Name) (rest : List Name) where
+  module _ (walkable : Walkable entries nodes) (follow-last : Bool) (k : ℕ) (jumps : Jumps k) (m : Name) (rest : List Name) where
     pub follow-legs : (q : Place) (target : List ℕ) (ns : List Name) → is-directory nodes (q .directory) ≡ true →
-        follow (jump-within entries nodes last k) q target (ns ++ (m ∷ rest))
-        ≡ (follow (jump-within entries nodes true k) q target ns >>= onward last k (m ∷ rest))
+        follow (jump-within entries nodes follow-last k) q target (ns ++ (m ∷ rest))
+        ≡ (follow (jump-within entries nodes true k) q target ns >>= onward follow-last k (m ∷ rest))
     unfolding follow
     follow-legs q target ns d =
-        ap (λ (l : List Name). after-link q (jump-within entries nodes last k (start (q .directory) target) l)) (sym (append-assoc (names target) ns (m ∷ rest)))
-        ∙ jumps last q (start (q .directory) target) (names target ++ ns) m rest (start-directory nodes (q .directory) target (walkable .top) d)
+        ap (λ (l : List Name). after-link q (jump-within entries nodes follow-last k (start (q .directory) target) l)) (sym (append-assoc (names target) ns (m ∷ rest)))
+        ∙ jumps follow-last q (start (q .directory) target) (names target ++ ns) m rest (start-directory nodes (q .directory) target (walkable .top) d)
 
     reached-directory : (n : ℕ) → is-directory nodes n ≡ true →
-        walk-names entries nodes last (jump-within entries nodes last k) n (m ∷ rest)
-        ≡ onward last k (m ∷ rest) (record { end = none; node = n; elements = [] })
+        walk-names entries nodes follow-last (jump-within entries nodes follow-last k) n (m ∷ rest)
+        ≡ onward follow-last k (m ∷ rest) (record { end = none; node = n; elements = [] })
     unfolding onward prefixed
     reached-directory n d =
         let e : k ≡ k - 0 = omega arith in
-        sym (within-names last k n (m ∷ rest)) ∙ sym (enter-directory last k n (m ∷ rest) d)
-        ∙ ap (λ (j : ℕ). entered entries nodes last j n (m ∷ rest)) e
+        sym (within-names follow-last k n (m ∷ rest)) ∙ sym (enter-directory follow-last k n (m ∷ rest) d)
+        ∙ ap (λ (j : ℕ). entered entries nodes follow-last j n (m ∷ rest)) e
 
     turn-legs : (q : Place) (f : Found) (ns : List Name) → found entries nodes q ≡ f → is-directory nodes (q .directory) ≡ true →
         ((n : ℕ) → is-directory nodes n ≡ true →
-        walk-names entries nodes last (jump-within entries nodes last k) n (ns ++ (m ∷ rest))
-        ≡ (walk-names entries nodes true (jump-within entries nodes true k) n ns >>= onward last k (m ∷ rest))) →
-        turn (jump-within entries nodes last k) (λ n. walk-names entries nodes last (jump-within entries nodes last k) n (ns ++ (m ∷ rest))) last q f (ns ++ (m ∷ rest))
-        ≡ (turn (jump-within entries nodes true k) (λ n. walk-names entries nodes true (jump-within entries nodes true k) n ns) true q f ns >>= onward last k (m ∷ rest))
+        walk-names entries nodes follow-last (jump-within entries nodes follow-last k) n (ns ++ (m ∷ rest))
+        ≡ (walk-names entries nodes true (jump-within entries nodes true k) n ns >>= onward follow-last k (m ∷ rest))) →
+        turn (jump-within entries nodes follow-last k) (λ n. walk-names entries nodes follow-last (jump-within entries nodes follow-last k) n (ns ++ (m ∷ rest))) follow-last q f (ns ++ (m ∷ rest))
+        ≡ (turn (jump-within entries nodes true k) (λ n. walk-names entries nodes true (jump-within entries nodes true k) n ns) true q f ns >>= onward follow-last k (m ∷ rest))
     unfolding turn _>>=_ here onward prefixed entered node-at
     turn-legs q nothing [] e d h = refl
     turn-legs q nothing (n ∷ ns) e d h = refl
     turn-legs q (file n) [] e d h =
         let kind = found-file entries nodes walkable q n e in
-        sym (enter-other last (k - 0) n (m ∷ rest) (λ z. omega arith) (λ z. omega arith))
+        sym (enter-other follow-last (k - 0) n (m ∷ rest) (λ z. omega arith) (λ z. omega arith))
     turn-legs q (file x) (n ∷ ns) e d h = refl
     turn-legs q (directory n) [] e d h = reached-directory n (found-directory entries nodes q n e .kind)
     turn-legs q (directory x) (n ∷ ns) e d h = h x (found-directory entries nodes q x e .kind)
@@ -107,8 +107,8 @@ module _ (entries : List Entry) (nodes : List Node) where
     turn-legs q (link x target) (n ∷ ns) e d h = follow-legs q target (n ∷ ns) d
 
     names-legs : (d : ℕ) (ns : List Name) → is-directory nodes d ≡ true →
-        walk-names entries nodes last (jump-within entries nodes last k) d (ns ++ (m ∷ rest))
-        ≡ (walk-names entries nodes true (jump-within entries nodes true k) d ns >>= onward last k (m ∷ rest))
+        walk-names entries nodes follow-last (jump-within entries nodes follow-last k) d (ns ++ (m ∷ rest))
+        ≡ (walk-names entries nodes true (jump-within entries nodes true k) d ns >>= onward follow-last k (m ∷ rest))
     unfolding walk-names _>>=_
     names-legs d [] e = reached-directory d e
     names-legs d (n ∷ ns) e =
@@ -117,9 +117,9 @@ module _ (entries : List Entry) (nodes : List Node) where
 
   pub jump-legs : Walkable entries nodes → (k : ℕ) → Jumps k
   unfolding jump-within after-link _>>=_
-  jump-legs walkable zero last q s ns m rest e = refl
-  jump-legs walkable (suc k) last q s ns m rest e =
+  jump-legs walkable zero follow-last q s ns m rest e = refl
+  jump-legs walkable (suc k) follow-last q s ns m rest e =
       ap (after-link q)
-      (within-names last k s (ns ++ (m ∷ rest)) ∙ names-legs walkable last k (jump-legs walkable k) m rest s ns e
-      ∙ ap (λ (o : Outcome Goal). o >>= onward last k (m ∷ rest)) (sym (within-names true k s ns)))
-      ∙ after-link-onward last q k (m ∷ rest) (walk-within entries nodes true k s ns)
+      (within-names follow-last k s (ns ++ (m ∷ rest)) ∙ names-legs walkable follow-last k (jump-legs walkable k) m rest s ns e
+      ∙ ap (λ (o : Outcome Goal). o >>= onward follow-last k (m ∷ rest)) (sym (within-names true k s ns)))
+      ∙ after-link-onward follow-last q k (m ∷ rest) (walk-within entries nodes true k s ns)

@@ -137,7 +137,7 @@ module _ (w : List ℕ) (walkable : Walkable (unpack w .entries) (unpack w .node
 
   -- the walk from the name that was met
   abbrev pub Left : List Name → Outcome Goal
-  Left rest = walk-within entries nodes (s .last) left (s .place .directory) (name-of (s .place .name) ∷ rest)
+  Left rest = walk-within entries nodes (s .«follow_last») left (s .place .directory) (name-of (s .place .name) ∷ rest)
 
   -- the link that was met, followed alone
   abbrev pub Link : Outcome Goal
@@ -154,51 +154,51 @@ module _ (w : List ℕ) (walkable : Walkable (unpack w .entries) (unpack w .node
 
   -- THE LAST NAME
 
-  pub follows-last-link : {r : Walk} → s .last ≡ true → node-at nodes (s .node) .kind ≡ a-link → r ≡ continued t Link → r ≡ continued t (Left [])
+  pub follows-last-link : {r : Walk} → s .«follow_last» ≡ true → node-at nodes (s .node) .kind ≡ a-link → r ≡ continued t Link → r ≡ continued t (Left [])
   unfolding place-at place-of
   follows-last-link f kind e =
-      e ∙ ap (continued t) (sym (follows-last entries nodes walkable (s .last) left place [] refl f (kind-there a-link kind) ∙ same-link))
+      e ∙ ap (continued t) (sym (follows-last entries nodes walkable (s .«follow_last») left place [] refl f (kind-there a-link kind) ∙ same-link))
 
-  pub stops-at-entry : (node-at nodes (s .node) .kind ≢ a-link) ⊎ (s .last ≡ false) →
+  pub stops-at-entry : (node-at nodes (s .node) .kind ≢ a-link) ⊎ (s .«follow_last» ≡ false) →
       record { stop = Entry (s .place) (s .node); count = t .count; elements = t .elements } ≡ continued t (Left [])
   unfolding place-at place-of
   stops-at-entry c =
       let same = sym (place-there-and-back (s .place .directory) (s .place .name) (met .named)) in
       (λ i. record { stop = Entry (same i) (met .node i); count = t .count; elements = t .elements })
       ∙ stopped-at t place (lookup entries place)
-      ∙ ap (continued t) (sym (stops-there entries nodes walkable (s .last) left place [] refl (⊎-elim (λ h. inl (no-link-there h)) (λ h. inr h) c)))
+      ∙ ap (continued t) (sym (stops-there entries nodes walkable (s .«follow_last») left place [] refl (⊎-elim (λ h. inl (no-link-there h)) (λ h. inr h) c)))
 
   -- A NAME WITH OTHERS BEHIND IT
 
   module _ (rest : List Name) (more : rest ≢ []) where
-    pub goes-on-there : {r : Walk} → node-at nodes (s .node) .kind ≢ a-link → r ≡ continued t (entered entries nodes (s .last) left (s .node) rest) →
+    pub goes-on-there : {r : Walk} → node-at nodes (s .node) .kind ≢ a-link → r ≡ continued t (entered entries nodes (s .«follow_last») left (s .node) rest) →
         r ≡ continued t (Left rest)
     unfolding place-at place-of
     goes-on-there kind e =
         e ∙ ap (continued t)
-        (ap (λ (n : ℕ). entered entries nodes (s .last) left n rest) (met .node)
-        ∙ sym (goes-on entries nodes walkable (s .last) left place rest more (no-link-there kind)))
+        (ap (λ (n : ℕ). entered entries nodes (s .«follow_last») left n rest) (met .node)
+        ∙ sym (goes-on entries nodes walkable (s .«follow_last») left place rest more (no-link-there kind)))
 
     module _ (kind : node-at nodes (s .node) .kind ≡ a-link) (r : Walk) (e : r ≡ continued t Link) where
-      two-legs : Left rest ≡ (Link >>= onward entries nodes (s .last) left rest)
+      two-legs : Left rest ≡ (Link >>= onward entries nodes (s .«follow_last») left rest)
       unfolding place-at place-of Directory
       two-legs =
-          follows-on entries nodes walkable (s .last) left place rest more (met .directory) (kind-there a-link kind)
-          ∙ ap (λ (o : Outcome Goal). o >>= onward entries nodes (s .last) left rest) same-link
+          follows-on entries nodes walkable (s .«follow_last») left place rest more (met .directory) (kind-there a-link kind)
+          ∙ ap (λ (o : Outcome Goal). o >>= onward entries nodes (s .«follow_last») left rest) same-link
 
       pub refused-on-the-way : is-refused (r .stop) ≡ true → r ≡ continued t (Left rest)
-      refused-on-the-way refusal = refused-leg t Link r e refusal (onward entries nodes (s .last) left rest) ∙ ap (continued t) (sym two-legs)
+      refused-on-the-way refusal = refused-leg t Link r e refusal (onward entries nodes (s .«follow_last») left rest) ∙ ap (continued t) (sym two-legs)
 
       pub leg-reached : is-refused (r .stop) ≡ false → Reached t left Link r
       leg-reached no-refusal =
           reached t left Link r
-          (subst (Ends left) same-link (link-ends-there entries nodes walkable (s .last) left place rest (kind-there a-link kind))) e no-refusal
+          (subst (Ends left) same-link (link-ends-there entries nodes walkable (s .«follow_last») left place rest (kind-there a-link kind))) e no-refusal
 
       pub goes-on-behind : t .count ≤ 8 → is-refused (r .stop) ≡ false → {r′ : Walk} →
-          r′ ≡ continued (record { count = r .count; elements = r .elements }) (entered entries nodes (s .last) (8 - r .count) (node-at-end (r .stop)) rest) →
+          r′ ≡ continued (record { count = r .count; elements = r .elements }) (entered entries nodes (s .«follow_last») (8 - r .count) (node-at-end (r .stop)) rest) →
           r′ ≡ continued t (Left rest)
       goes-on-behind few no-refusal g =
-          g ∙ next-leg entries nodes (s .last) rest t Link r few (leg-reached no-refusal) ∙ ap (continued t) (sym two-legs)
+          g ∙ next-leg entries nodes (s .«follow_last») rest t Link r few (leg-reached no-refusal) ∙ ap (continued t) (sym two-legs)
 
 -- A LINK IS FOLLOWED
 
@@ -269,15 +269,15 @@ pub target-walk : (entries : List model-tables.Entry) (nodes : List Node) (s d :
 target-walk entries nodes s d e f g = λ i. continued (e i) (walk-within entries nodes true (8 - e i .count) (f i) (names (g i)))
 
 pub entered-from : (w path : List ℕ) {u v : Trail} {o p : Onward} → u ≡ v → o ≡ p →
-    continued u (entered (unpack w .entries) (unpack w .nodes) (o .last) (8 - u .count) (o .node) (names (drop (o .at) path)))
-    ≡ continued v (entered (unpack w .entries) (unpack w .nodes) (p .last) (8 - v .count) (p .node) (names (drop (p .at) path)))
+    continued u (entered (unpack w .entries) (unpack w .nodes) (o .«follow_last») (8 - u .count) (o .node) (names (drop (o .at) path)))
+    ≡ continued v (entered (unpack w .entries) (unpack w .nodes) (p .«follow_last») (8 - v .count) (p .node) (names (drop (p .at) path)))
 entered-from w path e f =
-    λ i. continued (e i) (entered (unpack w .entries) (unpack w .nodes) (f i .last) (8 - e i .count) (f i .node) (names (drop (f i .at) path)))
+    λ i. continued (e i) (entered (unpack w .entries) (unpack w .nodes) (f i .«follow_last») (8 - e i .count) (f i .node) (names (drop (f i .at) path)))
 
-pub onward-at : {o : Onward} {at m n : ℕ} {last : Bool} → o ≡ record { at = at; node = m; last = last } → m ≡ n →
-    o ≡ record { at = at; node = n; last = last }
-onward-at {at = at} {last = last} e f = e ∙ (λ i. record { at = at; node = f i; last = last })
+pub onward-at : {o : Onward} {at m n : ℕ} {follow-last : Bool} → o ≡ record { at = at; node = m; «follow_last» = follow-last } → m ≡ n →
+    o ≡ record { at = at; node = n; «follow_last» = follow-last }
+onward-at {at = at} {follow-last = follow-last} e f = e ∙ (λ i. record { at = at; node = f i; «follow_last» = follow-last })
 
 -- the walk of some names from where the code stands
 unfoldable pub continued-names : List ℕ → Onward → Trail → List Name → Walk
-continued-names w o t ns = continued t (walk-within (unpack w .entries) (unpack w .nodes) (o .last) (8 - t .count) (o .node) ns)
+continued-names w o t ns = continued t (walk-within (unpack w .entries) (unpack w .nodes) (o .«follow_last») (8 - t .count) (o .node) ns)

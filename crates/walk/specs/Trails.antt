@@ -43,11 +43,11 @@ is-refused (Refused n) = true
 is-refused Root = false
 is-refused (Entry q n) = false
 
-module _ (entries : List model-tables.Entry) (nodes : List Node) (last : Bool) where
+module _ (entries : List model-tables.Entry) (nodes : List Node) (follow-last : Bool) where
   -- what follows a link where k links are left: one of them is spent, and where none is left the walk is refused
   unfoldable pub jump-within : ℕ → ℕ → List Name → Outcome Goal
   jump-within zero d rest = refused 7
-  jump-within (suc k) d rest = walk-within entries nodes last k d rest
+  jump-within (suc k) d rest = walk-within entries nodes follow-last k d rest
 
   -- the names that are left, from the node that was reached: it has to be there, and a directory
   unfoldable pub entered : ℕ → ℕ → List Name → Outcome Goal
@@ -56,7 +56,7 @@ module _ (entries : List model-tables.Entry) (nodes : List Node) (last : Bool) w
         | true ↦ refused 8
         | false ↦
             elim (eqb (node-at nodes n .kind) a-directory) [
-              | true ↦ walk-within entries nodes last k n rest
+              | true ↦ walk-within entries nodes follow-last k n rest
               | false ↦ refused 9
             ]
       ]

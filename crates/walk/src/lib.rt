@@ -1,5 +1,5 @@
 // A path walked over the lent tables: names looked up one after the other, links followed on the way. Document 01, 'Walking a path'.
-// Walking names calls following a link, which walks the names of the target: the links left fall, or the bytes left do.
+// The functions call each other in a cycle, which ends: the links left fall, or the bytes left do.
 ghost use mathlib.Core.Path.{_≡_};
 ghost use mathlib.Core.Bool.{true, false};
 ghost use mathlib.Core.List.{[], _∷_};
@@ -15,26 +15,27 @@ ghost use Rattle.model.specs.Sound.{sound-rows};
 ghost use Rattle.model.specs.Walk.{follow, walk-within, walk};
 ghost use Rattle.rows.specs.Blocks.{Named, name-of};
 ghost use Rattle.index.specs.Indexed.{Indexed};
-ghost use Rattle.goals.specs.Goals.{blank, place-at, node-at-end, walked};
+ghost use Rattle.goals.specs.Goals.{blank, place-at, walked};
 ghost use Rattle.walk.specs.Trails.{continued, with-element, is-refused, jump-within, entered, Ready, Names-left, Directory, Met};
 use goals::Place;
 use goals::Stop;
 use goals::Walk;
+use goals::node_of;
 use index::lookup;
+use model::NAME_IS_FILE;
+use model::NAME_MISSING;
+use model::NINTH_LINK;
 use paths::Next;
 use paths::next_name;
 use rows::Block;
+use rows::DIRECTORY;
+use rows::LINK;
+use rows::ROOT;
 use rows::block_from;
 use rows::node_kind;
 use rows::target_in;
 
 const LINKS: usize = 8;
-
-const DIRECTORY: u8 = 2;
-
-const LINK: u8 = 3;
-
-const ROOT: u16 = 1;
 
 const SLASH: u8 = b'/';
 
@@ -48,7 +49,7 @@ struct Trail {
 struct Onward {
     at: usize,
     node: u16,
-    last: bool,
+    follow_last: bool,
 }
 
 // A name that a walk met: its place, the node there, the byte behind it, and whether a link at the last name is followed.
@@ -56,20 +57,26 @@ struct Step {
     place: Place,
     node: u16,
     at: usize,
-    last: bool,
+    follow_last: bool,
 }
 
 // The walk of a valid path over sound tables, with the index of their entries.
-pub fn walk(words: &[u32], heads: &[u16; 1021], next: &[u16; 512], path: &[u8], last: bool) -> Walk
+pub fn walk(
+    words: &[u32],
+    heads: &[u16; 1021],
+    next: &[u16; 512],
+    path: &[u8],
+    follow_last: bool,
+) -> Walk
     requires indexed { ⌜ Indexed (now words) (now heads) (now next) ⌝ }
     requires sound { ⌜ sound-rows (unpack (now words)) ≡ true ⌝ }
     requires valid { ⌜ valid-path (now path) ≡ true ⌝ }
-    ensures { λ r. ⌜ r ≡ walked (walk (unpack (now (words .entry)) .entries) (unpack (now (words .entry)) .nodes) last (now (path .entry))) ⌝ }
+    ensures { λ r. ⌜ r ≡ walked (walk (unpack (now (words .entry)) .entries) (unpack (now (words .entry)) .nodes) «follow_last» (now (path .entry))) ⌝ }
 {
     let from = Onward {
         at: 0,
         node: ROOT,
-        last: last,
+        follow_last: follow_last,
     };
     walk_names(words, heads, next, path, from, no_links())
 }
@@ -85,7 +92,7 @@ fn walk_names(
     requires ready { ⌜ Ready (now words) (now heads) (now next) trail ⌝ }
     requires directory { ⌜ Directory (now words) (from .node) ⌝ }
     requires valid { ⌜ Names-left (now path) (from .at) ⌝ }
-    ensures { λ r. ⌜ r ≡ continued trail (walk-within (unpack (now (words .entry)) .entries) (unpack (now (words .entry)) .nodes) (from .last) (8 - trail .count) (from .node) (names (drop (from .at) (now (path .entry))))) ⌝ }
+    ensures { λ r. ⌜ r ≡ continued trail (walk-within (unpack (now (words .entry)) .entries) (unpack (now (words .entry)) .nodes) (from .«follow_last») (8 - trail .count) (from .node) (names (drop (from .at) (now (path .entry))))) ⌝ }
 {
     let at = from.at;
     let directory = from.node;
@@ -101,7 +108,7 @@ fn walk_names(
         },
         node: lookup(words, heads, next, directory, name),
         at: end,
-        last: from.last,
+        follow_last: from.follow_last,
     };
     if end == path.len() {
         return last_name(words, heads, next, step, trail);
@@ -119,11 +126,11 @@ fn last_name(
 ) -> Walk
     requires ready { ⌜ Ready (now words) (now heads) (now next) trail ⌝ }
     requires met { ⌜ Met (now words) step ⌝ }
-    ensures { λ r. ⌜ r ≡ continued trail (walk-within (unpack (now (words .entry)) .entries) (unpack (now (words .entry)) .nodes) (step .last) (8 - trail .count) (step .place .directory) (name-of (step .place .name) ∷ [])) ⌝ }
+    ensures { λ r. ⌜ r ≡ continued trail (walk-within (unpack (now (words .entry)) .entries) (unpack (now (words .entry)) .nodes) (step .«follow_last») (8 - trail .count) (step .place .directory) (name-of (step .place .name) ∷ [])) ⌝ }
 {
     let place = step.place;
     let node = step.node;
-    if step.last {
+    if step.follow_last {
         if node_kind(words, node) == LINK {
             return follow_link(words, heads, next, node, place, trail);
         }
@@ -150,7 +157,7 @@ fn middle_name(
     requires met { ⌜ Met (now words) step ⌝ }
     requires valid { ⌜ Names-left (now path) (step .at) ⌝ }
     requires more { ⌜ names (drop (step .at) (now path)) ≢ [] ⌝ }
-    ensures { λ r. ⌜ r ≡ continued trail (walk-within (unpack (now (words .entry)) .entries) (unpack (now (words .entry)) .nodes) (step .last) (8 - trail .count) (step .place .directory) (name-of (step .place .name) ∷ names (drop (step .at) (now (path .entry))))) ⌝ }
+    ensures { λ r. ⌜ r ≡ continued trail (walk-within (unpack (now (words .entry)) .entries) (unpack (now (words .entry)) .nodes) (step .«follow_last») (8 - trail .count) (step .place .directory) (name-of (step .place .name) ∷ names (drop (step .at) (now (path .entry))))) ⌝ }
 {
     let node = step.node;
     if node_kind(words, node) != LINK {
@@ -167,7 +174,7 @@ fn middle_name(
         heads,
         next,
         path,
-        onward_from(step, node_at_end(stop)),
+        onward_from(step, node_of(reached)),
         trail_of(reached),
     )
 }
@@ -183,16 +190,16 @@ fn enter(
 ) -> Walk
     requires ready { ⌜ Ready (now words) (now heads) (now next) trail ⌝ }
     requires valid { ⌜ Names-left (now path) (from .at) ⌝ }
-    ensures { λ r. ⌜ r ≡ continued trail (entered (unpack (now (words .entry)) .entries) (unpack (now (words .entry)) .nodes) (from .last) (8 - trail .count) (from .node) (names (drop (from .at) (now (path .entry))))) ⌝ }
+    ensures { λ r. ⌜ r ≡ continued trail (entered (unpack (now (words .entry)) .entries) (unpack (now (words .entry)) .nodes) (from .«follow_last») (8 - trail .count) (from .node) (names (drop (from .at) (now (path .entry))))) ⌝ }
 {
     let kind = node_kind(words, from.node);
     if kind == 0 {
-        return refuse(8);
+        return refuse(NAME_MISSING);
     }
     if kind == DIRECTORY {
         return walk_names(words, heads, next, path, from, trail);
     }
-    refuse(9)
+    refuse(NAME_IS_FILE)
 }
 
 // Walks the target of the link that stands at a place, its last name too.
@@ -211,7 +218,7 @@ fn follow_link(
     ensures { λ r. ⌜ r ≡ continued trail (follow (jump-within (unpack (now (words .entry)) .entries) (unpack (now (words .entry)) .nodes) true (8 - trail .count)) (place-at place) (node-at (unpack (now (words .entry)) .nodes) node .target) []) ⌝ }
 {
     if trail.count >= LINKS {
-        return refuse(7);
+        return refuse(NINTH_LINK);
     }
     let target = target_in(words, node as usize - 1);
     let length = target.length;
@@ -219,7 +226,7 @@ fn follow_link(
     let from = Onward {
         at: 0,
         node: start_of(bytes[0], place.directory),
-        last: true,
+        follow_last: true,
     };
     walk_names(
         words,
@@ -232,12 +239,12 @@ fn follow_link(
 }
 
 fn onward_from(step: Step, node: u16) -> Onward
-    ensures { λ r. ⌜ r ≡ record { at = step .at; node = node; last = step .last } ⌝ }
+    ensures { λ r. ⌜ r ≡ record { at = step .at; node = node; «follow_last» = step .«follow_last» } ⌝ }
 {
     Onward {
         at: step.at,
         node: node,
-        last: step.last,
+        follow_last: step.follow_last,
     }
 }
 
@@ -301,7 +308,8 @@ fn stop_at(stop: Stop, trail: Trail) -> Walk
     }
 }
 
-fn refuse(number: u8) -> Walk
+// A walk that ends in a refusal has no elements.
+pub fn refuse(number: u8) -> Walk
     ensures { λ r. ⌜ r ≡ walked (refused number) ⌝ }
 {
     stop_at(Stop::Refused(number), no_links())
@@ -314,18 +322,5 @@ fn is_refused(stop: Stop) -> bool
         Stop::Refused(_) => true,
         Stop::Root => false,
         Stop::Entry { place: _, node: _ } => false,
-    }
-}
-
-fn node_at_end(stop: Stop) -> u16
-    ensures { λ r. ⌜ r ≡ node-at-end stop ⌝ }
-{
-    match stop {
-        Stop::Refused(_) => 0,
-        Stop::Root => ROOT,
-        Stop::Entry {
-            place: _,
-            node: node,
-        } => node,
     }
 }

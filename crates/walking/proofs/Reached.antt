@@ -71,8 +71,8 @@ refused-arrives : {o : Outcome Goal} {n : ℕ} → o ≡ refused n → Arrives o
 unfolding arrival-of goal-numbers
 refused-arrives e = rw e (record { answer = refl; numbers = refl })
 
-module _ (w path : List ℕ) (last : Bool) {sounds : Bool} (tested : sounds ≡ sound w) where
-  pub unsound-arrives : not sounds ≡ true → Arrives (walking w path last) (Refused 1) (replicate 46 0)
+module _ (w path : List ℕ) (follow-last : Bool) {sounds : Bool} (tested : sounds ≡ sound w) where
+  pub unsound-arrives : not sounds ≡ true → Arrives (walking w path follow-last) (Refused 1) (replicate 46 0)
   unfolding walking _>>_
   unsound-arrives h = let s : sound w ≡ false = sym tested ∙ not-true sounds h in refused-arrives (rw s)
 
@@ -80,21 +80,21 @@ module _ (w path : List ℕ) (last : Bool) {sounds : Bool} (tested : sounds ≡ 
     pub sounds-right : sound w ≡ true
     sounds-right = sym tested ∙ not-false sounds right
 
-    pub invalid-arrives : not valid ≡ true → Arrives (walking w path last) (Refused 3) (replicate 46 0)
+    pub invalid-arrives : not valid ≡ true → Arrives (walking w path follow-last) (Refused 3) (replicate 46 0)
     unfolding walking _>>_
     invalid-arrives h =
         let v : valid-path path ≡ false = sym parted ∙ not-true valid h in
         refused-arrives (rw (sounds-right, v))
 
-    goes-on : not valid ≡ false → walking w path last ≡ walk (unpack w .entries) (unpack w .nodes) last path
+    goes-on : not valid ≡ false → walking w path follow-last ≡ walk (unpack w .entries) (unpack w .nodes) follow-last path
     unfolding walking _>>_
     goes-on h = let v : valid-path path ≡ true = sym parted ∙ not-false valid h in rw (sounds-right, v)
 
-    pub walk-arrives : not valid ≡ false → {x : Walk} {r : Arrival} {goal : List ℕ} → x ≡ walked (walk (unpack w .entries) (unpack w .nodes) last path)
-        → goal ≡ goal-words x → r ≡ arrival-at (x .stop) → Arrives (walking w path last) r goal
+    pub walk-arrives : not valid ≡ false → {x : Walk} {r : Arrival} {goal : List ℕ} → x ≡ walked (walk (unpack w .entries) (unpack w .nodes) follow-last path)
+        → goal ≡ goal-words x → r ≡ arrival-at (x .stop) → Arrives (walking w path follow-last) r goal
     walk-arrives h {x} e f g =
         let o = goes-on h in
-        let ends = whole-ends w (sound-has-sound-rows w sounds-right) last path in
+        let ends = whole-ends w (sound-has-sound-rows w sounds-right) follow-last path in
         record {
           answer = g ∙ ap (λ (y : Walk). arrival-at (y .stop)) e ∙ arrival-same _ ends ∙ ap arrival-of (sym o);
           numbers = f ∙ ap goal-words e ∙ goal-same _ ∙ ap goal-numbers (sym o);
@@ -121,5 +121,5 @@ walked-roomy (granted g) e =
       room = room-long (g .elements) few;
     }
 
-pub walk-roomy : (w path : List ℕ) (last : Bool) → sound w ≡ true → {x : Walk} → x ≡ walked (walk (unpack w .entries) (unpack w .nodes) last path) → Roomy x
-walk-roomy w path last s e = rw e (walked-roomy _ (whole-ends w (sound-has-sound-rows w s) last path))
+pub walk-roomy : (w path : List ℕ) (follow-last : Bool) → sound w ≡ true → {x : Walk} → x ≡ walked (walk (unpack w .entries) (unpack w .nodes) follow-last path) → Roomy x
+walk-roomy w path follow-last s e = rw e (walked-roomy _ (whole-ends w (sound-has-sound-rows w s) follow-last path))

@@ -21,12 +21,12 @@ use Rattle.goals.specs.Goals.{blank}
 use Rattle.walking.specs.declared.Arrival.{Arrival}
 use Rattle.walking.specs.declared.Arrival.the-variants.{Node, Refused}
 
--- Numbers given back, from the top: 1, then 3, then 7, 8 and 9 as the walk meets them
+-- Numbers given back: the tables are tested first, then the path, and then comes what the walk itself refuses
 unfoldable pub walking : List ℕ → List ℕ → Bool → Outcome Goal
-walking w path last = do
+walking w path follow-last = do
   1 when not (sound w)
   3 when not (valid-path path)
-  walk (unpack w .entries) (unpack w .nodes) last path
+  walk (unpack w .entries) (unpack w .nodes) follow-last path
 
 -- BY THE MODEL
 

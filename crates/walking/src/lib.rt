@@ -8,16 +8,13 @@ ghost use Rattle.walking.specs.Arrivals.{walking, Arrives, place-words, 
 use goals::Place;
 use goals::Stop;
 use goals::Walk;
+use model::BAD_PATH;
+use model::UNSOUND;
 use paths::valid_path;
 use rows::Block;
+use rows::ROOT;
 use soundness::sound_and_index;
 use walk::walk;
-
-const UNSOUND: u8 = 1;
-
-const INVALID: u8 = 3;
-
-const ROOT: u16 = 1;
 
 // The node that a path leads to, 0 for an absence; or refused with 1, 3, 7, 8 or 9.
 pub enum Arrival {
@@ -27,8 +24,8 @@ pub enum Arrival {
 
 // Walks the path. The goal is how many elements there are, the end entry and the elements, each as its directory and name block; zeros in the
 // room that is left, and for a refusal.
-pub fn walk_to(words: &[u32], path: &[u8], last: bool, goal: &mut [u32; 46]) -> Arrival
-    ensures { λ r. ⌜ Arrives (walking (now (words .entry)) (now (path .entry)) last) r (now (goal .exit)) ⌝ }
+pub fn walk_to(words: &[u32], path: &[u8], follow_last: bool, goal: &mut [u32; 46]) -> Arrival
+    ensures { λ r. ⌜ Arrives (walking (now (words .entry)) (now (path .entry)) «follow_last») r (now (goal .exit)) ⌝ }
 {
     *goal = [0; 46];
     let mut heads = [0u16; 1021];
@@ -37,9 +34,9 @@ pub fn walk_to(words: &[u32], path: &[u8], last: bool, goal: &mut [u32; 46]) -> 
         return Arrival::Refused(UNSOUND);
     }
     if !valid_path(path) {
-        return Arrival::Refused(INVALID);
+        return Arrival::Refused(BAD_PATH);
     }
-    let walked = walk(words, &heads, &next, path, last);
+    let walked = walk(words, &heads, &next, path, follow_last);
     put_goal(goal, walked);
     let stop = walked.stop;
     arrival_at(stop)

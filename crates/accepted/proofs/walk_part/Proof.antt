@@ -32,7 +32,7 @@ walk-requires c κs =
 returns : tie.Need-returns
 returns c =
     let start = c .before .before .before .before .before in
-    c .walk .ensures ∙ ap (λ l. walked (walk ((unpack (start .args .words .now)) .entries) ((unpack (start .args .words .now)) .nodes) (start .args .last) l)) (slice-part (start .args .bytes .now) (start .args .part))
+    c .walk .ensures ∙ ap (λ l. walked (walk ((unpack (start .args .words .now)) .entries) ((unpack (start .args .words .now)) .nodes) (start .args .follow-last) l)) (slice-part (start .args .bytes .now) (start .args .part))
 
 pub walk-part-spec : {M : Type 1} → statement M
 walk-part-spec =

@@ -8,17 +8,17 @@ use Rattle.exports.proofs.tickbutton_read.Tie as tie
 read-requires : tie.Need-read-requires
 read-requires c κs = search needs
 
-enum-known-f : tie.Need-enum-known-f
-enum-known-f c = search needs
+enum-known-found : tie.Need-enum-known-found
+enum-known-found c = search needs
 
 put-fields-requires : tie.Need-put-fields-requires
-put-fields-requires c κs = accepted-as _ _ _ (sym (c .before .before .before .before .read .ensures) ∙ c .before .before .f .given .1) .small
+put-fields-requires c κs = accepted-as _ _ _ (sym (c .before .before .before .before .read .ensures) ∙ c .before .before .found .given .1) .small
 
 cast-told : tie.Need-cast-told
 cast-told c = search needs
 
 told-requires : tie.Need-told-requires
-told-requires c κs = (search needs, search needs, accepted-as _ _ _ (sym (c .before .before .before .before .before .before .read .ensures) ∙ c .before .before .before .before .f .given .1) .few)
+told-requires c κs = (search needs, search needs, accepted-as _ _ _ (sym (c .before .before .before .before .before .before .read .ensures) ∙ c .before .before .before .before .found .given .1) .few)
 
 enum-known-number : tie.Need-enum-known-number
 enum-known-number c = search needs
@@ -31,7 +31,7 @@ told-requires-2 c κs = (search needs, search needs, refused-as _ _ _ (sym (c .b
 
 returns : tie.Need-returns
 returns c =
-    let a = accepted-as _ _ _ (sym (c .before .before .before .before .before .before .before .read .ensures) ∙ c .before .before .before .before .before .f .given .1) in
+    let a = accepted-as _ _ _ (sym (c .before .before .before .before .before .before .before .read .ensures) ∙ c .before .before .before .before .before .found .given .1) in
     record { answer = c .told .ensures ∙ a .number; numbers = c .before .before .put-fields .ensures ∙ a .numbers }
 
 returns-2 : tie.Need-returns-2
@@ -44,7 +44,7 @@ tickbutton-read-spec =
     tie.close
     (tie.spec
     read-requires
-    enum-known-f
+    enum-known-found
     put-fields-requires
     cast-told
     told-requires

@@ -15,6 +15,9 @@ returns : tie.Need-returns
 unfolding soundness-number
 returns c = c .told .ensures ∙ ap soundness-number (sym (c .before .if1 .taken) ∙ c .before .before .sound .ensures)
 
+cast-told : tie.Need-cast-told
+cast-told c = search needs
+
 told-requires-2 : tie.Need-told-requires-2
 told-requires-2 c κs = search needs
 
@@ -24,4 +27,4 @@ returns-2 c = c .told2 .ensures ∙ ap soundness-number (sym (c .before .if1 .le
 
 pub tickbutton-sound-spec : {M : Type 1} → statement M
 tickbutton-sound-spec =
-    tie.close (tie.spec sound-requires told-requires returns told-requires-2 returns-2)
+    tie.close (tie.spec sound-requires told-requires returns cast-told told-requires-2 returns-2)

@@ -14,13 +14,13 @@ same-length : tie.Need-same-length
 same-length c = search needs
 
 returns : tie.Need-returns
-returns c = hold-added (c .before .before .before .before .before .before .before .before .args .words .now) (c .before .before .before .before .before .before .before .before .pre .0) (c .before .before .before .before .before .before .before .before .args .h) (c .before .before .before .before .before .free-hold-row .ensures) (c .before .before .set-hold .ensures)
+returns c = hold-added (c .before .before .before .before .before .before .before .before .args .words .now) (c .before .before .before .before .before .before .before .before .pre .0) (c .before .before .before .before .before .before .before .before .args .hold) (c .before .before .before .before .before .free-hold-row .ensures) (c .before .before .set-hold .ensures)
 
 same-length-2 : tie.Need-same-length-2
 same-length-2 c = search needs
 
 returns-2 : tie.Need-returns-2
-returns-2 c = no-row-free (c .before .before .before .before .args .words .now) (c .before .before .before .before .pre .0) (c .before .before .before .before .args .h) (c .before .free-hold-row .ensures) (c .if1 .left)
+returns-2 c = no-row-free (c .before .before .before .before .args .words .now) (c .before .before .before .before .pre .0) (c .before .before .before .before .args .hold) (c .before .free-hold-row .ensures) (c .if1 .left)
 
 pub add-hold-spec : {M : Type 1} → statement M
 add-hold-spec =

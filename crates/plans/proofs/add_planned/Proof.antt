@@ -12,10 +12,10 @@ use Rattle.plans.proofs.add_planned.Statement.{statement}
 use Rattle.plans.proofs.add_planned.Tie as tie
 
 abbrev Inv-loop : tie.InvT-loop
-Inv-loop words₀ plan n i₀ words i = (i ≤ plan .count) × (Towards (adding plan) (with-holds (unpack words₀) (add-holds (planned-holds plan) (unpack words₀ .holds))) i words)
+Inv-loop words₀ plan count i₀ words i = (i ≤ plan .count) × (Towards (adding plan) (with-holds (unpack words₀) (add-holds (planned-holds plan) (unpack words₀ .holds))) i words)
 
 abbrev μ-loop : tie.MeasureT-loop
-μ-loop words₀ plan n i₀ words i = plan .count - i
+μ-loop words₀ plan count i₀ words i = plan .count - i
 
 loop-holds : tie.Need-loop-holds Inv-loop μ-loop
 loop-holds c = (search needs, add-begin (c .before .args .plan) (c .before .pre .1) (c .before .pre .0))

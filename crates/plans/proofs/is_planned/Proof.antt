@@ -14,10 +14,10 @@ use Rattle.plans.proofs.is_planned.Statement.{statement}
 use Rattle.plans.proofs.is_planned.Tie as tie
 
 abbrev Inv-loop : tie.InvT-loop
-Inv-loop plan h n i₀ i = (i ≤ plan .count) × (any (same-hold (hold-of h)) (drop i (planned-holds plan)) ≡ any (same-hold (hold-of h)) (planned-holds plan))
+Inv-loop plan hold count i₀ i = (i ≤ plan .count) × (any (same-hold (hold-of hold)) (drop i (planned-holds plan)) ≡ any (same-hold (hold-of hold)) (planned-holds plan))
 
 abbrev μ-loop : tie.MeasureT-loop
-μ-loop plan h n i₀ i = plan .count - i
+μ-loop plan hold count i₀ i = plan .count - i
 
 loop-holds : tie.Need-loop-holds Inv-loop μ-loop
 loop-holds c = (search needs, refl)
@@ -29,7 +29,7 @@ same-holds-requires : tie.Need-same-holds-requires Inv-loop μ-loop
 same-holds-requires c κs = (c .before .before .before .pre .1, fine-row (c .before .before .before .args .plan) (c .before .before .before .pre .0) (c .before .before .loop .i) (c .row-of .ensures) .name)
 
 returns : tie.Need-returns Inv-loop μ-loop
-returns c = any-found (same-hold (hold-of (c .before .before .before .before .before .args .h))) (hold-of blank-row) (planned-holds (c .before .before .before .before .before .args .plan)) (c .before .before .before .before .loop .i) (omega (arith, planned-long (c .before .before .before .before .before .args .plan) (c .before .before .before .before .before .pre .0))) (planned-test (c .before .before .before .before .before .args .plan) (c .before .before .before .before .before .pre .0) (same-hold (hold-of (c .before .before .before .before .before .args .h))) (c .before .before .before .before .loop .i) (c .before .before .before .loop-test .taken) (c .before .before .row-of .ensures) (c .before .same-holds .ensures) (c .if1 .taken)) (c .before .before .before .before .loop .inv .1)
+returns c = any-found (same-hold (hold-of (c .before .before .before .before .before .args .hold))) (hold-of blank-row) (planned-holds (c .before .before .before .before .before .args .plan)) (c .before .before .before .before .loop .i) (omega (arith, planned-long (c .before .before .before .before .before .args .plan) (c .before .before .before .before .before .pre .0))) (planned-test (c .before .before .before .before .before .args .plan) (c .before .before .before .before .before .pre .0) (same-hold (hold-of (c .before .before .before .before .before .args .hold))) (c .before .before .before .before .loop .i) (c .before .before .before .loop-test .taken) (c .before .before .row-of .ensures) (c .before .same-holds .ensures) (c .if1 .taken)) (c .before .before .before .before .loop .inv .1)
 
 add-i : tie.Need-add-i Inv-loop μ-loop
 add-i c = omega arith
@@ -38,10 +38,10 @@ loop-less : tie.Need-loop-less Inv-loop μ-loop
 loop-less c = omega arith
 
 loop-again : tie.Need-loop-again Inv-loop μ-loop
-loop-again c = (omega arith, any-onward (same-hold (hold-of (c .before .before .before .before .before .args .h))) (hold-of blank-row) (planned-holds (c .before .before .before .before .before .args .plan)) (c .before .before .before .before .loop .i) (omega (arith, planned-long (c .before .before .before .before .before .args .plan) (c .before .before .before .before .before .pre .0))) (planned-test (c .before .before .before .before .before .args .plan) (c .before .before .before .before .before .pre .0) (same-hold (hold-of (c .before .before .before .before .before .args .h))) (c .before .before .before .before .loop .i) (c .before .before .before .loop-test .taken) (c .before .before .row-of .ensures) (c .before .same-holds .ensures) (c .if1 .left)) (c .before .before .before .before .loop .inv .1))
+loop-again c = (omega arith, any-onward (same-hold (hold-of (c .before .before .before .before .before .args .hold))) (hold-of blank-row) (planned-holds (c .before .before .before .before .before .args .plan)) (c .before .before .before .before .loop .i) (omega (arith, planned-long (c .before .before .before .before .before .args .plan) (c .before .before .before .before .before .pre .0))) (planned-test (c .before .before .before .before .before .args .plan) (c .before .before .before .before .before .pre .0) (same-hold (hold-of (c .before .before .before .before .before .args .hold))) (c .before .before .before .before .loop .i) (c .before .before .before .loop-test .taken) (c .before .before .row-of .ensures) (c .before .same-holds .ensures) (c .if1 .left)) (c .before .before .before .before .loop .inv .1))
 
 returns-2 : tie.Need-returns-2 Inv-loop μ-loop
-returns-2 c = any-nowhere (same-hold (hold-of (c .before .before .args .h))) (hold-of blank-row) (planned-holds (c .before .before .args .plan)) (c .before .loop .i) (omega (arith, planned-long (c .before .before .args .plan) (c .before .before .pre .0))) (c .before .loop .inv .1)
+returns-2 c = any-nowhere (same-hold (hold-of (c .before .before .args .hold))) (hold-of blank-row) (planned-holds (c .before .before .args .plan)) (c .before .loop .i) (omega (arith, planned-long (c .before .before .args .plan) (c .before .before .pre .0))) (c .before .loop .inv .1)
 
 pub is-planned-spec : {M : Type 1} → statement M
 is-planned-spec =

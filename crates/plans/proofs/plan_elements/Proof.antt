@@ -11,19 +11,19 @@ use Rattle.plans.proofs.plan_elements.Statement.{statement}
 use Rattle.plans.proofs.plan_elements.Tie as tie
 
 abbrev Inv-loop : tie.InvT-loop
-Inv-loop words process plan₀ elements n i₀ plan i = (i ≤ n) × (Gathered (unpack words .holds) process n elements i plan)
+Inv-loop words process plan₀ elements count i₀ plan i = (i ≤ count) × (Gathered (unpack words .holds) process count elements i plan)
 
 abbrev μ-loop : tie.MeasureT-loop
-μ-loop words process plan₀ elements n i₀ plan i = n - i
+μ-loop words process plan₀ elements count i₀ plan i = count - i
 
 loop-holds : tie.Need-loop-holds Inv-loop μ-loop
 loop-holds c = (search needs, gather-start (unpack (c .before .before .args .words .now) .holds) (c .before .before .args .process) (c .before .before .args .walk .count) (c .before .before .args .walk .elements))
 
-mul-q : tie.Need-mul-q Inv-loop μ-loop
-mul-q c = omega (arith, (c .before .before .before .before .pre .1 .0) .few)
+mul-place : tie.Need-mul-place Inv-loop μ-loop
+mul-place c = omega (arith, (c .before .before .before .before .pre .1 .0) .few)
 
-array-copy-out-q : tie.Need-array-copy-out-q Inv-loop μ-loop
-array-copy-out-q c = omega (arith, (c .before .before .before .before .pre .1 .0) .few, (c .before .before .before .before .pre .1 .1) .room)
+array-copy-out-place : tie.Need-array-copy-out-place Inv-loop μ-loop
+array-copy-out-place c = omega (arith, (c .before .before .before .before .pre .1 .0) .few, (c .before .before .before .before .pre .1 .1) .room)
 
 wish-requires : tie.Need-wish-requires Inv-loop μ-loop
 unfolding blank
@@ -49,8 +49,8 @@ plan-elements-spec =
     Inv-loop
     μ-loop
     loop-holds
-    mul-q
-    array-copy-out-q
+    mul-place
+    array-copy-out-place
     wish-requires
     add-i
     loop-less

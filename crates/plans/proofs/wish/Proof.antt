@@ -9,13 +9,13 @@ has-hold-requires : tie.Need-has-hold-requires
 has-hold-requires c κs = search needs
 
 returns : tie.Need-returns
-returns c = held-before (unpack (c .before .before .before .args .words .now) .holds) (c .before .before .before .args .plan) (c .before .before .before .pre .1 .0) (c .before .before .before .args .h) (c .before .has-hold .ensures) (c .if1 .taken)
+returns c = held-before (unpack (c .before .before .before .args .words .now) .holds) (c .before .before .before .args .plan) (c .before .before .before .pre .1 .0) (c .before .before .before .args .hold) (c .before .has-hold .ensures) (c .if1 .taken)
 
 is-planned-requires : tie.Need-is-planned-requires
 is-planned-requires c κs = search needs
 
 returns-2 : tie.Need-returns-2
-returns-2 c = planned-before (unpack (c .before .before .before .before .before .args .words .now) .holds) (c .before .before .before .before .before .args .plan) (c .before .before .before .before .before .pre .1 .0) (c .before .before .before .before .before .args .h) (c .before .before .before .has-hold .ensures) (c .before .before .if1 .left) (c .before .is-planned .ensures) (c .if2 .taken)
+returns-2 c = planned-before (unpack (c .before .before .before .before .before .args .words .now) .holds) (c .before .before .before .before .before .args .plan) (c .before .before .before .before .before .pre .1 .0) (c .before .before .before .before .before .args .hold) (c .before .before .before .has-hold .ensures) (c .before .before .if1 .left) (c .before .is-planned .ensures) (c .if2 .taken)
 
 mul-rows : tie.Need-mul-rows
 mul-rows c = search needs
@@ -27,7 +27,7 @@ add-t8 : tie.Need-add-t8
 add-t8 c = search needs
 
 returns-3 : tie.Need-returns-3
-returns-3 c = planned-new (unpack (c .before .before .before .before .before .before .args .words .now) .holds) (c .before .before .before .before .before .before .args .plan) (c .before .before .before .before .before .before .pre .1 .0) (c .before .before .before .before .before .before .args .h) (c .before .before .before .before .has-hold .ensures) (c .before .before .before .if1 .left) (c .before .before .is-planned .ensures) (c .before .if2 .left) (c .before .before .before .before .before .before .pre .1 .1 .0) (c .before .before .before .before .before .before .pre .1 .1 .1)
+returns-3 c = planned-new (unpack (c .before .before .before .before .before .before .args .words .now) .holds) (c .before .before .before .before .before .before .args .plan) (c .before .before .before .before .before .before .pre .1 .0) (c .before .before .before .before .before .before .args .hold) (c .before .before .before .before .has-hold .ensures) (c .before .before .before .if1 .left) (c .before .before .is-planned .ensures) (c .before .if2 .left) (c .before .before .before .before .before .before .pre .1 .1 .0) (c .before .before .before .before .before .before .pre .1 .1 .1)
 
 pub wish-spec : {M : Type 1} → statement M
 wish-spec =

@@ -5,6 +5,7 @@ use native.Mathlib.Omega.{arith}
 use lib.ListN.{length}
 use Rattle.runs.proofs.Onward.{Going, going-starts, next-within, stops-cut, stops-full, went-on}
 use borrow.Author.Needs.{needs}
+use Rattle.model.specs.Answers.{answer-slot}
 use Rattle.runs.proofs.serve_run.Statement.{statement}
 use Rattle.runs.proofs.serve_run.Tie as tie
 
@@ -48,8 +49,8 @@ returns c = stops-cut (c .before .before .before .before .before .loop .inv) (c 
 serve-found-requires : tie.Need-serve-found-requires Inv-loop μ-loop
 serve-found-requires c κs = (c .before .before .before .before .before .before .before .before .loop .inv .tested, (c .before .before .before .before .before .read .ensures, sym (c .before .before .before .before .is-cut-short .ensures) ∙ c .before .before .before .if1 .left))
 
-slot-of-requires : tie.Need-slot-of-requires Inv-loop μ-loop
-slot-of-requires c κs = search needs
+told-answer-requires : tie.Need-told-answer-requires Inv-loop μ-loop
+told-answer-requires c κs = search needs
 
 mul-answers : tie.Need-mul-answers Inv-loop μ-loop
 mul-answers c = search needs
@@ -70,7 +71,8 @@ loop-less : tie.Need-loop-less Inv-loop μ-loop
 loop-less c = omega (arith, c .before .before .before .before .before .before .before .before .before .before .before .before .before .loop .inv .slots-long)
 
 loop-again : tie.Need-loop-again Inv-loop μ-loop
-loop-again c = went-on (c .before .before .before .before .before .before .before .before .before .before .before .before .before .loop .inv) (c .before .before .before .before .before .before .before .before .before .before .read .ensures) (c .before .before .before .before .before .before .before .before .before .is-cut-short .ensures) (c .before .before .before .before .before .before .before .before .if1 .left) (c .taken-of .ensures) (c .before .before .before .before .before .before .before .before .before .before .before .before .loop-test .taken) (c .before .before .before .before .serve-found .ensures .0) (c .before .before .before .before .serve-found .ensures .1) (c .before .before .before .before .serve-found .kept .0) (c .before .slot-of .ensures)
+unfolding answer-slot
+loop-again c = went-on (c .before .before .before .before .before .before .before .before .before .before .before .before .before .loop .inv) (c .before .before .before .before .before .before .before .before .before .before .read .ensures) (c .before .before .before .before .before .before .before .before .before .is-cut-short .ensures) (c .before .before .before .before .before .before .before .before .if1 .left) (c .taken-of .ensures) (c .before .before .before .before .before .before .before .before .before .before .before .before .loop-test .taken) (c .before .before .before .before .serve-found .ensures .0) (c .before .before .before .before .serve-found .ensures .1) (c .before .before .before .before .serve-found .kept .0) (c .before .told-answer .ensures)
 
 same-length-3 : tie.Need-same-length-3 Inv-loop μ-loop
 same-length-3 c = c .before .loop .inv .words-long
@@ -98,7 +100,7 @@ serve-run-spec =
     same-length-2
     returns
     serve-found-requires
-    slot-of-requires
+    told-answer-requires
     mul-answers
     slice-write-answers
     taken-of-requires

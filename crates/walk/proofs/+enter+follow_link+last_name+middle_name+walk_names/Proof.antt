@@ -17,7 +17,7 @@ use Rattle.walk.proofs.+enter+follow_link+last_name+middle_name+walk_na
 use Rattle.walk.proofs.+enter+follow_link+last_name+middle_name+walk_names.Tie.{close}
 use Rattle.walk.proofs.+enter+follow_link+last_name+middle_name+walk_names.Proof.Claims.{μ-enter, μ-follow-link, μ-last-name, μ-middle-name, μ-walk-names, enter-at, follow-link-at, last-name-at, middle-name-at, walk-names-at, enter-calls, follow-link-calls, last-name-calls, middle-name-calls, walk-names-calls}
 use Rattle.walk.proofs.+enter+follow_link+last_name+middle_name+walk_names.Proof.Nodes.{enter-node-kind-requires, enter-refuse-requires, enter-returns, enter-walk-names-requires, enter-returns-2, enter-refuse-requires-2, enter-returns-3, follow-link-refuse-requires, follow-link-returns, follow-link-sub-target-in, follow-link-target-in-requires, follow-link-array-read-start-of, follow-link-start-of-requires, follow-link-array-share-prefix-bytes, follow-link-slice-aggregate-walk-names, follow-link-add-element-requires, follow-link-walk-names-requires, follow-link-returns-2}
-use Rattle.walk.proofs.+enter+follow_link+last_name+middle_name+walk_names.Proof.Names.{last-name-node-kind-requires, last-name-follow-link-requires, last-name-returns, last-name-stop-at-requires, last-name-returns-2, middle-name-node-kind-requires, middle-name-onward-from-requires, middle-name-enter-requires, middle-name-returns, middle-name-follow-link-requires, middle-name-is-refused-requires, middle-name-returns-2, middle-name-node-at-end-requires, middle-name-onward-from-requires-2, middle-name-trail-of-requires, middle-name-enter-requires-2, middle-name-returns-3, walk-names-next-name-requires, walk-names-enum-known-start, walk-names-enum-told, walk-names-stop-at-requires, walk-names-returns, walk-names-add-end, walk-names-block-from-requires, walk-names-lookup-requires, walk-names-last-name-requires, walk-names-returns-2, walk-names-middle-name-requires, walk-names-returns-3}
+use Rattle.walk.proofs.+enter+follow_link+last_name+middle_name+walk_names.Proof.Names.{last-name-node-kind-requires, last-name-follow-link-requires, last-name-returns, last-name-stop-at-requires, last-name-returns-2, middle-name-node-kind-requires, middle-name-onward-from-requires, middle-name-enter-requires, middle-name-returns, middle-name-follow-link-requires, middle-name-is-refused-requires, middle-name-returns-2, middle-name-node-of-requires, middle-name-onward-from-requires-2, middle-name-trail-of-requires, middle-name-enter-requires-2, middle-name-returns-3, walk-names-next-name-requires, walk-names-enum-known-start, walk-names-enum-told, walk-names-stop-at-requires, walk-names-returns, walk-names-add-end, walk-names-block-from-requires, walk-names-lookup-requires, walk-names-last-name-requires, walk-names-returns-2, walk-names-middle-name-requires, walk-names-returns-3}
 
 pub +enter+follow-link+last-name+middle-name+walk-names-spec : {M : Type 1} → statement M
 +enter+follow-link+last-name+middle-name+walk-names-spec =
@@ -59,7 +59,7 @@ pub +enter+follow-link+last-name+middle-name+walk-names-spec : {M : Type 1} → 
     (middle-name-follow-link-requires t)
     (middle-name-is-refused-requires t)
     (middle-name-returns-2 t)
-    (middle-name-node-at-end-requires t)
+    (middle-name-node-of-requires t)
     (middle-name-onward-from-requires-2 t)
     (middle-name-trail-of-requires t)
     (middle-name-enter-requires-2 t)

@@ -24,7 +24,7 @@ returns : tie.Need-returns
 returns c =
     let s = c .before .before .before .before in
     c .walk-names .ensures
-    ∙ whole-walk (s .args .words .now) (s .pre .1 .0) (s .args .last) (s .args .path .now) (c .before .no-links .ensures)
+    ∙ whole-walk (s .args .words .now) (s .pre .1 .0) (s .args .follow-last) (s .args .path .now) (c .before .no-links .ensures)
 
 pub walk-spec : {M : Type 1} → statement M
 walk-spec = tie.close (tie.spec no-links-requires walk-names-requires returns)

@@ -19,6 +19,7 @@ use Rattle.walk.proofs.+enter+follow_link+last_name+middle_name+walk_na
 use Rattle.walk.proofs.walk_names.Reads as walk-names
 use Rattle.walk.proofs.walk_names.Kinds as walk-names-kinds
 use Rattle.walk.proofs.+enter+follow_link+last_name+middle_name+walk_names.Lts-walk_names as walk-names-lts
+use Rattle.goals.proofs.node_of.Reads as node-of-reads
 use Rattle.index.proofs.lookup.Reads as lookup-reads
 use Rattle.paths.proofs.next_name.Reads as next-name-reads
 use Rattle.rows.proofs.block_from.Reads as block-from-reads
@@ -26,7 +27,6 @@ use Rattle.rows.proofs.node_kind.Reads as node-kind-reads
 use Rattle.rows.proofs.target_in.Reads as target-in-reads
 use Rattle.walk.proofs.add_element.Reads as add-element-reads
 use Rattle.walk.proofs.is_refused.Reads as is-refused-reads
-use Rattle.walk.proofs.node_at_end.Reads as node-at-end-reads
 use Rattle.walk.proofs.onward_from.Reads as onward-from-reads
 use Rattle.walk.proofs.refuse.Reads as refuse-reads
 use Rattle.walk.proofs.start_of.Reads as start-of-reads
@@ -99,7 +99,7 @@ last-name-calls t =
 
 abbrev pub middle-name-calls : ℕ → middle-name-lts.Claims
 middle-name-calls t =
-    (node-kind-reads.Asked, node-kind-reads.Learnt, onward-from-reads.Asked, onward-from-reads.Learnt, enter-below t, enter.Post, follow-link-below t, follow-link.Post, is-refused-reads.Asked, is-refused-reads.Learnt, node-at-end-reads.Asked, node-at-end-reads.Learnt, trail-of-reads.Asked, trail-of-reads.Learnt)
+    (node-kind-reads.Asked, node-kind-reads.Learnt, onward-from-reads.Asked, onward-from-reads.Learnt, enter-below t, enter.Post, follow-link-below t, follow-link.Post, is-refused-reads.Asked, is-refused-reads.Learnt, node-of-reads.Asked, node-of-reads.Learnt, trail-of-reads.Asked, trail-of-reads.Learnt)
 
 abbrev pub walk-names-calls : ℕ → walk-names-lts.Claims
 walk-names-calls t =

@@ -8,7 +8,7 @@ use lib.ListN.{drop}
 use Rattle.model.specs.Lists.{all}
 use Rattle.model.specs.Paths.{names, valid-name}
 use Rattle.model.specs.Words.{unpack}
-use Rattle.goals.specs.Goals.{place-at}
+use Rattle.goals.specs.Goals.{goal-of, place-at}
 use Rattle.paths.proofs.Splits.{next-ends}
 use Rattle.walk.specs.declared.Onward.{Onward}
 use Rattle.walk.specs.declared.Trail.{Trail}
@@ -85,8 +85,8 @@ middle-name-returns-2 t c =
     refused-on-the-way (s .args .words .now) (sound-walkable (s .args .words .now) (s .pre .1 .0 .sound)) (s .args .step) (s .pre .1 .1 .0) (s .args .trail) (names (drop (s .args .step .at) (s .args .path .now))) (s .pre .1 .1 .1 .1) (sym (c .before .before .before .before .before .node-kind .ensures) ∙ c .before .before .before .before .if1 .left) (c .before .before .follow-link .result) (c .before .before .follow-link .ensures)
     (sym (c .before .is-refused .ensures) ∙ c .if2 .taken)
 
-pub middle-name-node-at-end-requires : (t : ℕ) → middle-name-lts.Need-node-at-end-requires (middle-name-calls t) (middle-name-at t) middle-name.Post
-middle-name-node-at-end-requires t c κs = tt
+pub middle-name-node-of-requires : (t : ℕ) → middle-name-lts.Need-node-of-requires (middle-name-calls t) (middle-name-at t) middle-name.Post
+middle-name-node-of-requires t c κs = tt
 
 pub middle-name-onward-from-requires-2 : (t : ℕ) → middle-name-lts.Need-onward-from-requires-2 (middle-name-calls t) (middle-name-at t) middle-name.Post
 middle-name-onward-from-requires-2 t c κs = tt
@@ -113,11 +113,12 @@ middle-name-enter-requires-2 t c κs =
     )
 
 pub middle-name-returns-3 : (t : ℕ) → middle-name-lts.Need-returns-3 (middle-name-calls t) (middle-name-at t) middle-name.Post
+unfolding goal-of
 middle-name-returns-3 t c =
     let s = c .before .before .before .before .before .before .before .before .before .before .before .before in
     goes-on-behind (s .args .words .now) (sound-walkable (s .args .words .now) (s .pre .1 .0 .sound)) (s .args .step) (s .pre .1 .1 .0) (s .args .trail) (names (drop (s .args .step .at) (s .args .path .now))) (s .pre .1 .1 .1 .1) (sym (c .before .before .before .before .before .before .before .before .before .node-kind .ensures) ∙ c .before .before .before .before .before .before .before .before .if1 .left) (c .before .before .before .before .before .before .follow-link .result) (c .before .before .before .before .before .before .follow-link .ensures)
     (s .pre .1 .0 .few) (sym (c .before .before .before .before .before .is-refused .ensures) ∙ c .before .before .before .before .if2 .left)
-    (c .enter2 .ensures ∙ entered-from (s .args .words .now) (s .args .path .now) (c .before .trail-of .ensures) (onward-at (c .before .before .onward-from2 .ensures) (c .before .before .before .node-at-end .ensures)))
+    (c .enter2 .ensures ∙ entered-from (s .args .words .now) (s .args .path .now) (c .before .trail-of .ensures) (onward-at (c .before .before .onward-from2 .ensures) (c .before .before .before .node-of .ensures)))
 
 pub walk-names-next-name-requires : (t : ℕ) → walk-names-lts.Need-next-name-requires (walk-names-calls t) (walk-names-at t) walk-names.Post
 walk-names-next-name-requires t c κs = tt

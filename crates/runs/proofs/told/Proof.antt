@@ -1,8 +1,8 @@
--- `exports::told` meets its contract: the sum is that of the definition. Assumes nothing.
-use Rattle.exports.specs.Numbers.{answer-number}
+-- `runs::told` meets its contract: the sum is that of the definition. Assumes nothing.
 use borrow.Author.Needs.{needs}
-use Rattle.exports.proofs.told.Statement.{statement}
-use Rattle.exports.proofs.told.Tie as tie
+use Rattle.model.specs.Answers.{answer-number}
+use Rattle.runs.proofs.told.Statement.{statement}
+use Rattle.runs.proofs.told.Tie as tie
 
 mul-result : tie.Need-mul-result
 mul-result c = search needs
