@@ -2,7 +2,7 @@
 //! table is full, so that every number comes without a long computation.
 
 use reference::generate::{broken_tables, flip_bits, sound_tables, Mode, Random, Trace, MODES};
-use reference::numbers::{NO_NAME_ROW, NO_HOLD_ROW, NO_PROCESS_ROW};
+use reference::numbers::{NO_HOLD_ROW, NO_NAME_ROW, NO_PROCESS_ROW};
 use reference::sound::RULES;
 use reference::{serve_tables, Answer, Rule, Tables};
 
