@@ -9,12 +9,14 @@ ghost use Rattle.index.specs.Indexed.{Indexed};
 ghost use Rattle.goals.specs.Goals.{walked};
 ghost use Rattle.accepted.specs.Ready.{call-in, reaching, cut-short, Path-in, Ready, Walks};
 use goals::Walk;
+use index::BUCKETS;
 use model::NOT_LISTED;
 use model::SHORT_RECORD;
 use processes::is_unlisted;
 use records::Fields;
 use records::Part;
 use records::Reading;
+use rows::ENTRY_ROWS;
 use walk::refuse;
 use walk::walk;
 
@@ -41,8 +43,8 @@ pub fn is_cut_short(found: Reading) -> bool
 
 pub fn walk_part(
     words: &[u32],
-    heads: &[u16; 1021],
-    next: &[u16; 512],
+    heads: &[u16; BUCKETS],
+    next: &[u16; ENTRY_ROWS],
     bytes: &[u8],
     part: Part,
     follow_last: bool,
@@ -58,8 +60,8 @@ pub fn walk_part(
 // How the calls that walk begin: path 1 is walked for a process that is listed.
 pub fn reach(
     words: &[u32],
-    heads: &[u16; 1021],
-    next: &[u16; 512],
+    heads: &[u16; BUCKETS],
+    next: &[u16; ENTRY_ROWS],
     bytes: &[u8],
     fields: Fields,
     follow_last: bool,

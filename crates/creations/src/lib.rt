@@ -9,19 +9,21 @@ ghost use Rattle.accepted.specs.Ready.{call-in, Ready, Walks};
 use accepted::reach;
 use accepted::walk_part;
 use goals::Stop;
+use index::BUCKETS;
 use making::link::link_at;
 use making::make::make_at;
 use model::Answer;
 use records::Fields;
 use rows::DIRECTORY;
+use rows::ENTRY_ROWS;
 use rows::FILE;
 use rows::LINK;
 
 // A new node of this kind at the end of path 1. Path 2 is its target, and blank for all but a link.
 fn make(
     words: &mut [u32],
-    heads: &[u16; 1021],
-    next: &[u16; 512],
+    heads: &[u16; BUCKETS],
+    next: &[u16; ENTRY_ROWS],
     bytes: &[u8],
     fields: Fields,
     kind: u8,
@@ -42,8 +44,8 @@ fn make(
 
 pub fn create(
     words: &mut [u32],
-    heads: &[u16; 1021],
-    next: &[u16; 512],
+    heads: &[u16; BUCKETS],
+    next: &[u16; ENTRY_ROWS],
     bytes: &[u8],
     fields: Fields,
 ) -> Answer
@@ -55,8 +57,8 @@ pub fn create(
 
 pub fn mkdir(
     words: &mut [u32],
-    heads: &[u16; 1021],
-    next: &[u16; 512],
+    heads: &[u16; BUCKETS],
+    next: &[u16; ENTRY_ROWS],
     bytes: &[u8],
     fields: Fields,
 ) -> Answer
@@ -68,8 +70,8 @@ pub fn mkdir(
 
 pub fn symlink(
     words: &mut [u32],
-    heads: &[u16; 1021],
-    next: &[u16; 512],
+    heads: &[u16; BUCKETS],
+    next: &[u16; ENTRY_ROWS],
     bytes: &[u8],
     fields: Fields,
 ) -> Answer
@@ -82,8 +84,8 @@ pub fn symlink(
 // The new entry goes to the end of path 1, and leads to the node that path 2 leads to.
 pub fn link(
     words: &mut [u32],
-    heads: &[u16; 1021],
-    next: &[u16; 512],
+    heads: &[u16; BUCKETS],
+    next: &[u16; ENTRY_ROWS],
     bytes: &[u8],
     fields: Fields,
 ) -> Answer

@@ -11,6 +11,7 @@ use creations::create;
 use creations::link;
 use creations::mkdir;
 use creations::symlink;
+use index::BUCKETS;
 use looks::check;
 use looks::look;
 use looks::use_of;
@@ -19,11 +20,12 @@ use model::BAD_FIELD;
 use records::Fields;
 use removals::rmdir;
 use removals::unlink;
+use rows::ENTRY_ROWS;
 
 pub fn dispatch(
     words: &mut [u32],
-    heads: &[u16; 1021],
-    next: &[u16; 512],
+    heads: &[u16; BUCKETS],
+    next: &[u16; ENTRY_ROWS],
     bytes: &[u8],
     fields: Fields,
 ) -> Answer

@@ -5,8 +5,10 @@ ghost use Rattle.listing.specs.Steps.{stepped, next-line};
 
 mod parts;
 
+use index::BUCKETS;
 use lines::put_line;
 pub use parts::list_part;
+use rows::ENTRY_ROWS;
 use runs::serve_tested;
 
 // What a step comes to.
@@ -54,8 +56,8 @@ struct Setting {
 // Serves the record at the front of the bytes and writes its line. The tables were tested and indexed before; the test still holds behind it.
 fn next_line(
     words: &mut [u32],
-    heads: &mut [u16; 1021],
-    next: &mut [u16; 512],
+    heads: &mut [u16; BUCKETS],
+    next: &mut [u16; ENTRY_ROWS],
     bytes: &[u8],
     setting: Setting,
     out: &mut [u8],

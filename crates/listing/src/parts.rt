@@ -6,14 +6,16 @@ use super::Setting;
 use super::Step;
 use super::Stop;
 use super::next_line;
+use index::BUCKETS;
+use rows::ENTRY_ROWS;
 use soundness::sound_and_index;
 
 // Serves record after record of the bytes and writes their lines. `last` says that no bytes will come behind these.
 pub fn list_part(words: &mut [u32], bytes: &[u8], last: bool, place: u64, out: &mut [u8]) -> Part
     ensures { λ r. ⌜ filled r (now (words .exit)) (now (out .exit)) ≡ list-part last (now (words .entry)) (now (bytes .entry)) place (now (out .entry)) ⌝ }
 {
-    let mut heads = [0u16; 1021];
-    let mut next = [0u16; 512];
+    let mut heads = [0u16; BUCKETS];
+    let mut next = [0u16; ENTRY_ROWS];
     let is_sound = sound_and_index(words, &mut heads, &mut next);
     let mut from = 0;
     let mut at = 0;

@@ -6,8 +6,10 @@ ghost use Rattle.accepted.specs.Ready.{call-in, Ready, Walks};
 use accepted::reach;
 use checks::look_at;
 use goals::Stop;
+use index::BUCKETS;
 use model::Answer;
 use records::Fields;
+use rows::ENTRY_ROWS;
 
 // Whether a link at the last name is followed, and whether an absence is refused.
 struct Manner {
@@ -17,8 +19,8 @@ struct Manner {
 
 fn look_along(
     words: &mut [u32],
-    heads: &[u16; 1021],
-    next: &[u16; 512],
+    heads: &[u16; BUCKETS],
+    next: &[u16; ENTRY_ROWS],
     bytes: &[u8],
     fields: Fields,
     manner: Manner,
@@ -36,8 +38,8 @@ fn look_along(
 
 pub fn check(
     words: &mut [u32],
-    heads: &[u16; 1021],
-    next: &[u16; 512],
+    heads: &[u16; BUCKETS],
+    next: &[u16; ENTRY_ROWS],
     bytes: &[u8],
     fields: Fields,
 ) -> Answer
@@ -53,8 +55,8 @@ pub fn check(
 
 pub fn look(
     words: &mut [u32],
-    heads: &[u16; 1021],
-    next: &[u16; 512],
+    heads: &[u16; BUCKETS],
+    next: &[u16; ENTRY_ROWS],
     bytes: &[u8],
     fields: Fields,
 ) -> Answer
@@ -70,8 +72,8 @@ pub fn look(
 
 pub fn use_of(
     words: &mut [u32],
-    heads: &[u16; 1021],
-    next: &[u16; 512],
+    heads: &[u16; BUCKETS],
+    next: &[u16; ENTRY_ROWS],
     bytes: &[u8],
     fields: Fields,
 ) -> Answer

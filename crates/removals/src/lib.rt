@@ -5,15 +5,17 @@ ghost use Rattle.calls.specs.Meets.{Meets};
 ghost use Rattle.accepted.specs.Ready.{call-in, Ready, Walks};
 use accepted::reach;
 use goals::Stop;
+use index::BUCKETS;
 use model::Answer;
 use records::Fields;
 use removing::rmdir::rmdir_at;
 use removing::unlink::unlink_at;
+use rows::ENTRY_ROWS;
 
 pub fn unlink(
     words: &mut [u32],
-    heads: &[u16; 1021],
-    next: &[u16; 512],
+    heads: &[u16; BUCKETS],
+    next: &[u16; ENTRY_ROWS],
     bytes: &[u8],
     fields: Fields,
 ) -> Answer
@@ -30,8 +32,8 @@ pub fn unlink(
 
 pub fn rmdir(
     words: &mut [u32],
-    heads: &[u16; 1021],
-    next: &[u16; 512],
+    heads: &[u16; BUCKETS],
+    next: &[u16; ENTRY_ROWS],
     bytes: &[u8],
     fields: Fields,
 ) -> Answer

@@ -17,6 +17,7 @@ ghost use Rattle.runs.specs.Tested.{Tested, leaves-entries};
 use accepted::is_cut_short;
 use accepted::taken_of;
 use dispatch::dispatch;
+use index::BUCKETS;
 use index::index_entries;
 use model::Answer;
 use model::SHORT_RECORD;
@@ -25,6 +26,7 @@ use model::Verdict;
 use records::Fields;
 use records::Reading;
 use records::read;
+use rows::ENTRY_ROWS;
 use soundness::sound_and_index;
 
 // The words of an answer as numbers.
@@ -48,8 +50,8 @@ pub struct Run {
 pub fn serve_run(words: &mut [u32], records: &[u8], answers: &mut [u64]) -> Run
     ensures { λ r. ⌜ told-run r (now (words .exit)) (now (answers .exit)) ≡ run (now (words .entry)) (now (records .entry)) (now (answers .entry)) ⌝ }
 {
-    let mut heads = [0u16; 1021];
-    let mut next = [0u16; 512];
+    let mut heads = [0u16; BUCKETS];
+    let mut next = [0u16; ENTRY_ROWS];
     let is_sound = sound_and_index(words, &mut heads, &mut next);
     let mut served = 0;
     let mut taken = 0;
@@ -90,8 +92,8 @@ pub fn told_answer(answer: Answer, taken: u64) -> u64
 // The record at the front of the bytes over tables that were tested before: what `service::serve` gives, and the test still holds.
 pub fn serve_tested(
     words: &mut [u32],
-    heads: &mut [u16; 1021],
-    next: &mut [u16; 512],
+    heads: &mut [u16; BUCKETS],
+    next: &mut [u16; ENTRY_ROWS],
     bytes: &[u8],
     is_sound: bool,
 ) -> Verdict
@@ -111,8 +113,8 @@ pub fn serve_tested(
 // One whole record over tables that were tested before.
 fn serve_found(
     words: &mut [u32],
-    heads: &mut [u16; 1021],
-    next: &mut [u16; 512],
+    heads: &mut [u16; BUCKETS],
+    next: &mut [u16; ENTRY_ROWS],
     bytes: &[u8],
     found: Reading,
     is_sound: bool,
@@ -132,8 +134,8 @@ fn serve_found(
 // An accepted record: its call, and then the index anew where entries were written.
 fn serve_call(
     words: &mut [u32],
-    heads: &mut [u16; 1021],
-    next: &mut [u16; 512],
+    heads: &mut [u16; BUCKETS],
+    next: &mut [u16; ENTRY_ROWS],
     bytes: &[u8],
     fields: Fields,
 ) -> Answer
@@ -162,11 +164,11 @@ fn leaves_entries(call: u32, answer: Answer) -> bool
     }
 }
 
-fn index_anew(words: &[u32], heads: &mut [u16; 1021], next: &mut [u16; 512])
+fn index_anew(words: &[u32], heads: &mut [u16; BUCKETS], next: &mut [u16; ENTRY_ROWS])
     requires { ⌜ sound (now words) ≡ true ⌝ }
     ensures { λ _. ⌜ Indexed (now (words .entry)) (now (heads .exit)) (now (next .exit)) ⌝ }
 {
-    *heads = [0; 1021];
-    *next = [0; 512];
+    *heads = [0; BUCKETS];
+    *next = [0; ENTRY_ROWS];
     index_entries(words, heads, next);
 }

@@ -7,12 +7,14 @@ ghost use Rattle.service.specs.Serves.{Serves};
 use accepted::is_cut_short;
 use accepted::taken_of;
 use dispatch::dispatch;
+use index::BUCKETS;
 use model::Answer;
 use model::SHORT_RECORD;
 use model::UNSOUND;
 use model::Verdict;
 use records::Reading;
 use records::read;
+use rows::ENTRY_ROWS;
 use soundness::sound_and_index;
 
 // Serves the record at the front of the bytes: the answer and the bytes taken. A refusal changes no word.
@@ -33,8 +35,8 @@ fn judge(words: &mut [u32], bytes: &[u8], found: Reading) -> Answer
     if is_cut_short(found) {
         return Answer::Refused(SHORT_RECORD);
     }
-    let mut heads = [0u16; 1021];
-    let mut next = [0u16; 512];
+    let mut heads = [0u16; BUCKETS];
+    let mut next = [0u16; ENTRY_ROWS];
     if !sound_and_index(words, &mut heads, &mut next) {
         return Answer::Refused(UNSOUND);
     }

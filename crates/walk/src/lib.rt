@@ -21,6 +21,7 @@ use goals::Place;
 use goals::Stop;
 use goals::Walk;
 use goals::node_of;
+use index::BUCKETS;
 use index::lookup;
 use model::NAME_IS_FILE;
 use model::NAME_MISSING;
@@ -29,6 +30,7 @@ use paths::Next;
 use paths::next_name;
 use rows::Block;
 use rows::DIRECTORY;
+use rows::ENTRY_ROWS;
 use rows::LINK;
 use rows::ROOT;
 use rows::block_from;
@@ -63,8 +65,8 @@ struct Step {
 // The walk of a valid path over sound tables, with the index of their entries.
 pub fn walk(
     words: &[u32],
-    heads: &[u16; 1021],
-    next: &[u16; 512],
+    heads: &[u16; BUCKETS],
+    next: &[u16; ENTRY_ROWS],
     path: &[u8],
     follow_last: bool,
 ) -> Walk
@@ -83,8 +85,8 @@ pub fn walk(
 
 fn walk_names(
     words: &[u32],
-    heads: &[u16; 1021],
-    next: &[u16; 512],
+    heads: &[u16; BUCKETS],
+    next: &[u16; ENTRY_ROWS],
     path: &[u8],
     from: Onward,
     trail: Trail,
@@ -119,8 +121,8 @@ fn walk_names(
 // The walk stops at the entry that it met, or follows the link there where it may.
 fn last_name(
     words: &[u32],
-    heads: &[u16; 1021],
-    next: &[u16; 512],
+    heads: &[u16; BUCKETS],
+    next: &[u16; ENTRY_ROWS],
     step: Step,
     trail: Trail,
 ) -> Walk
@@ -147,8 +149,8 @@ fn last_name(
 // More names come: the walk goes on from the node that it met, or from where the link there leads.
 fn middle_name(
     words: &[u32],
-    heads: &[u16; 1021],
-    next: &[u16; 512],
+    heads: &[u16; BUCKETS],
+    next: &[u16; ENTRY_ROWS],
     path: &[u8],
     step: Step,
     trail: Trail,
@@ -182,8 +184,8 @@ fn middle_name(
 // Goes on from the node that was reached, with the names that are left.
 fn enter(
     words: &[u32],
-    heads: &[u16; 1021],
-    next: &[u16; 512],
+    heads: &[u16; BUCKETS],
+    next: &[u16; ENTRY_ROWS],
     path: &[u8],
     from: Onward,
     trail: Trail,
@@ -205,8 +207,8 @@ fn enter(
 // Walks the target of the link that stands at a place, its last name too.
 fn follow_link(
     words: &[u32],
-    heads: &[u16; 1021],
-    next: &[u16; 512],
+    heads: &[u16; BUCKETS],
+    next: &[u16; ENTRY_ROWS],
     node: u16,
     place: Place,
     trail: Trail,

@@ -8,10 +8,12 @@ ghost use Rattle.walking.specs.Arrivals.{walking, Arrives, place-words, 
 use goals::Place;
 use goals::Stop;
 use goals::Walk;
+use index::BUCKETS;
 use model::BAD_PATH;
 use model::UNSOUND;
 use paths::valid_path;
 use rows::Block;
+use rows::ENTRY_ROWS;
 use rows::ROOT;
 use soundness::sound_and_index;
 use walk::walk;
@@ -28,8 +30,8 @@ pub fn walk_to(words: &[u32], path: &[u8], follow_last: bool, goal: &mut [u32; 4
     ensures { λ r. ⌜ Arrives (walking (now (words .entry)) (now (path .entry)) «follow_last») r (now (goal .exit)) ⌝ }
 {
     *goal = [0; 46];
-    let mut heads = [0u16; 1021];
-    let mut next = [0u16; 512];
+    let mut heads = [0u16; BUCKETS];
+    let mut next = [0u16; ENTRY_ROWS];
     if !sound_and_index(words, &mut heads, &mut next) {
         return Arrival::Refused(UNSOUND);
     }
