@@ -84,6 +84,18 @@ pub fn groups() -> Vec<Group> {
     ]
 }
 
+/// The bytes of a trace of so many calls, by name.
+pub fn trace(name: &str, calls: usize) -> Option<Vec<u8>> {
+    let file = match name {
+        "mixed" => mixed(calls),
+        "full" => full(calls),
+        _ => return None,
+    };
+    let bytes = fs::read(file).expect("the trace");
+    tidy();
+    Some(bytes)
+}
+
 /// Removes the traces.
 pub fn tidy() {
     for name in ["mixed.trace", "full.trace"] {

@@ -1,5 +1,6 @@
 //! What the proved code costs: a table of times, each with its ratio to a plain loop measured in the same run (no words), or, for callgrind,
-//! one thing done so many times (`count GROUP PLACE TIMES`); `list` names the things. benches/run calls both.
+//! one thing done so many times (`count GROUP PLACE TIMES`) or a trace for the programs (`trace mixed` or `trace full` and how many calls); `list` names the
+//! things. benches/run calls them.
 
 mod clock;
 mod filled;
@@ -7,6 +8,7 @@ mod listing;
 mod records;
 mod tables;
 
+use std::io::Write;
 use std::process::ExitCode;
 
 use clock::Group;
@@ -59,6 +61,10 @@ fn count(name: &str, place: &str, times: &str) -> Option<()> {
     Some(())
 }
 
+fn write_trace(name: &str, calls: &str) -> Option<()> {
+    std::io::stdout().write_all(&listing::trace(name, calls.parse().ok()?)?).ok()
+}
+
 fn main() -> ExitCode {
     let words: Vec<String> = std::env::args().skip(1).collect();
     let words: Vec<&str> = words.iter().map(String::as_str).collect();
@@ -70,8 +76,9 @@ fn main() -> ExitCode {
         }
         ["list"] => list(),
         ["count", name, place, times] if count(name, place, times).is_some() => {}
+        ["trace", name, calls] if write_trace(name, calls).is_some() => {}
         _ => {
-            eprintln!("usage: benches [list | count GROUP PLACE TIMES]");
+            eprintln!("usage: benches [list | count GROUP PLACE TIMES | trace NAME CALLS]");
             return ExitCode::from(2);
         }
     }
