@@ -102,11 +102,11 @@ look-at must-exist t p g = do
   10 when must-exist && absent g  -- a use finds nothing
   seen-or-held t p g
 
--- Walking a path, what calls 5 to 7 share: `last` where a link at the last name is followed; `must-exist` where an absence is refused
+-- Walking a path, what calls 5 to 7 share: `follow-last` where a link at the last name is followed; `must-exist` where an absence is refused
 unfoldable pub looking : Bool → Bool → Tables → Call → Outcome Change
-looking last must-exist t r = do
+looking follow-last must-exist t r = do
   4 when unlisted t (r .process)
-  g ← walk (t .entries) (t .nodes) last (r .path1)
+  g ← walk (t .entries) (t .nodes) follow-last (r .path1)
   look-at must-exist t (r .process) g
 
 -- The thirteen calls, 5: it follows a last link, and an absence will do

@@ -55,26 +55,26 @@ start d target = elim (absolute target) [ true ↦ 1 | false ↦ d ]
 unfoldable pub follow : (ℕ → List Name → Outcome Goal) → Place → List ℕ → List Name → Outcome Goal
 follow jump q target rest = after-link q (jump (start (q .directory) target) (names target ++ rest))
 
--- Walking a path, one name: by what was found at its place q and by whether names come after it. `on` walks those from a directory; `last`
--- says whether a link at the last name is followed. Numbers given back, while names are left: 8 where nothing is found, 9 where a file is.
+-- Walking a path, one name: by what was found at its place q and by whether names come after it. `on` walks those from a directory;
+-- `follow-last` says whether a link at the last name is followed. Numbers given back, while names are left: 8 where nothing is found, 9 where a file is.
 unfoldable pub turn : (ℕ → List Name → Outcome Goal) → (ℕ → Outcome Goal) → Bool → Place → Found → List Name → Outcome Goal
-turn jump on last q nothing [] = here q 0
-turn jump on last q nothing (next ∷ rest) = refused 8
-turn jump on last q (file n) [] = here q n
-turn jump on last q (file n) (next ∷ rest) = refused 9
-turn jump on last q (directory n) [] = here q n
-turn jump on last q (directory n) (next ∷ rest) = on n
+turn jump on follow-last q nothing [] = here q 0
+turn jump on follow-last q nothing (next ∷ rest) = refused 8
+turn jump on follow-last q (file n) [] = here q n
+turn jump on follow-last q (file n) (next ∷ rest) = refused 9
+turn jump on follow-last q (directory n) [] = here q n
+turn jump on follow-last q (directory n) (next ∷ rest) = on n
 turn jump on true q (link n target) [] = follow jump q target []
 turn jump on false q (link n target) [] = here q n
-turn jump on last q (link n target) (next ∷ rest) = follow jump q target (next ∷ rest)
+turn jump on follow-last q (link n target) (next ∷ rest) = follow jump q target (next ∷ rest)
 
-module _ (entries : List Entry) (nodes : List Node) (last : Bool) where
+module _ (entries : List Entry) (nodes : List Node) (follow-last : Bool) where
   -- Walking a path: names one after the other, from directory d; there is no name only where `/` ends the walk
   unfoldable pub walk-names : (ℕ → List Name → Outcome Goal) → ℕ → List Name → Outcome Goal
   walk-names jump d [] = granted (record { end = none; node = d; elements = [] })
   walk-names jump d (name ∷ rest) =
       let q : Place = record { directory = d; name = name } in
-      turn jump (λ n. walk-names jump n rest) last q (found entries nodes q) rest
+      turn jump (λ n. walk-names jump n rest) follow-last q (found entries nodes q) rest
 
   -- Numbers given back, 7: the walk with at most k links to follow; one more is refused
   unfoldable pub walk-within : ℕ → ℕ → List Name → Outcome Goal
