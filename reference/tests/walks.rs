@@ -108,7 +108,7 @@ fn a_link_followed_twice_is_one_hold_but_counts_twice() {
 }
 
 #[test]
-fn an_entry_as_element_and_as_end_needs_two_rows() {
+fn an_entry_that_is_element_and_end_has_two_holds() {
     let mut world = links();
     world.play("20 look /top/top -> held 7");
     let wanted = [(20, 1, "top".to_string(), Role::Element), (20, 1, "top".to_string(), Role::End)];

@@ -20,7 +20,7 @@ use Rattle.invariants.proofs.Walks.{directory-not-zero, found-directory}
 abbrev pub Has : List Hold → Hold → Type 0
 Has holds h = any (same-hold h) holds ≡ true
 
--- p holds the entry, in either role, or the entry leads to a directory with a pinned entry inside
+-- an entry that p holds as end or element, or one of a directory in which something is pinned
 pub data Pinned (p : ℕ) (t : Tables) : Place → Type 0 where
   mine : {q : Place} (role : ℕ) → Has (t .holds) (hold-by p role q) → Pinned p t q
   above : {q : Place} (name : Name) → is-directory (t .nodes) (lookup (t .entries) q) ≡ true →

@@ -79,7 +79,7 @@ hold-rules =
     ∷ leaves-holds room
     (mill ++ (creates 1 "/in/fox" ∷ execs 1 ∷ links 30 "/fox" "/way/fox" ∷ []))
     "0: 30 end 1 fox\n"
-    -- 16: what is lacking, each once, against the rows free before any drop
+    -- 16: each lacking hold counts once, and a drop by the same call makes no room
     ∷ answers-so (room-for 16 12 2 4)
     (mill ++ (checks 20 "/way/fox" ∷ looks 30 "/way" ∷ checks 20 "/way/fox" ∷ looks 1 "/way" ∷ checks 1 "/in/fox" ∷ []))
     "1 done 1\n2 done 2\n3 done 3\n4 done 1\n5 done 20\n6 done 30\n7 held 0\n8 refused 16\n9 held 0\n10 refused 16\n11 refused 16\n"

@@ -56,7 +56,7 @@ sound-words =
 unfoldable pub sound-examples : List Example
 sound-examples =
     are-sound (rows entries nodes holds processes)
-    -- a hold needs no entry, an element hold needs no link, and one process may hold a name in both roles
+    -- holds on an absent name, element holds where no link is, and one name in both roles of one process
     ∷ are-sound (with-holds (hold 2 "wolf" 20 end-role ∷ hold 2 "fox" 20 element-role ∷ hold 2 "fox" 20 end-role ∷ []))
     -- element holds of two users, and end holds of two users on two names
     ∷ are-sound (with-holds (hold 1 "way" 20 element-role ∷ hold 1 "way" 30 element-role ∷ hold 2 "a" 20 end-role ∷ hold 2 "b" 30 end-role ∷ []))

@@ -40,7 +40,7 @@ walk-rules =
     ∷ answers-so room
     (tree ++ (creates 1 "/fox" ∷ symlinks 1 "/in/far" "/fox" ∷ checks 1 "/in/far" ∷ []))
     "1 done 1\n2 done 2\n3 done 3\n4 done 4\n5 done 5\n6 held 4\n"
-    -- the target `/`: in the middle the walk goes on from node 1; at the end it stops there, with an element and no end entry
+    -- the target `/` leads to node 1: onward from there where names are left, and else the end, with an element and no end entry
     ∷ answers-so room
     (tree ++ (symlinks 1 "/top" "/" ∷ checks 1 "/top/in" ∷ checks 1 "/top" ∷ []))
     "1 done 1\n2 done 2\n3 done 3\n4 done 4\n5 held 2\n6 held 1\n"

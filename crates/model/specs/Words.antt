@@ -31,7 +31,7 @@ pack-name n = words (length n ∷ filled 15 n)
 unfoldable pub unpack-name : List ℕ → Name
 unpack-name ws = let bs = bytes ws in take (getD bs 0 0) (take 14 (drop 1 bs))
 
--- A free row is read as the free row, whatever else it has, and written as zeros; that it was zeros before is for `sound` to ask.
+-- Whatever bits stand beside the mark of a free row, it is read as no row at all and written as zeros; whether they were zeros is for `sound` to ask.
 
 -- The lent tables, an entry: directory 16 bits, node 16, name block
 unfoldable pub pack-entry : Entry → List ℕ
