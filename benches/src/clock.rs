@@ -1,4 +1,5 @@
-//! Times: the shortest of several rounds, so that what else the machine does falls out.
+//! Times: the shortest of several rounds, so that what else the machine does falls out. The things of a group take turns in each round, so that a
+//! slow moment of the machine does not fall on one of them alone.
 
 use std::time::Instant;
 
@@ -34,16 +35,11 @@ impl Work {
         }
     }
 
-    /// Nanoseconds that one thing takes: the best of so many rounds of so many runs each.
-    pub fn nanoseconds(&mut self, rounds: u32, runs: u32) -> f64 {
-        let mut best = f64::MAX;
-        self.repeat(1);
-        for _ in 0..rounds {
-            let began = Instant::now();
-            self.repeat(runs);
-            best = best.min(began.elapsed().as_nanos() as f64);
-        }
-        best / f64::from(runs * self.things)
+    /// Nanoseconds that one thing takes, over so many runs.
+    fn nanoseconds(&mut self, runs: u32) -> f64 {
+        let began = Instant::now();
+        self.repeat(runs);
+        began.elapsed().as_nanos() as f64 / f64::from(runs * self.things)
     }
 }
 
@@ -53,4 +49,18 @@ pub struct Group {
     pub rounds: u32,
     pub runs: u32,
     pub works: Vec<Work>,
+}
+
+impl Group {
+    /// Nanoseconds that each of its things takes: the best of the rounds.
+    pub fn nanoseconds(&mut self) -> Vec<f64> {
+        let mut best = vec![f64::MAX; self.works.len()];
+        self.works.iter_mut().for_each(|work| work.repeat(1));
+        for _ in 0..self.rounds {
+            for (best, work) in best.iter_mut().zip(&mut self.works) {
+                *best = best.min(work.nanoseconds(self.runs));
+            }
+        }
+        best
+    }
 }

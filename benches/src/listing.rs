@@ -69,7 +69,7 @@ fn pair(name: &'static str, trace: PathBuf, calls: usize) -> Group {
         program(&format!("`verdicts`, {name}, each call"), VERDICTS, &[], &trace)
             .each_of(calls as u32),
     ];
-    Group { name, rounds: 5, runs: 1, works }
+    Group { name, rounds: 60, runs: 1, works }
 }
 
 /// A group for each trace, where both programs are built.

@@ -23,14 +23,11 @@ fn functions() -> Vec<Group> {
 
 /// Prints the times of a group, and gives them with their names.
 fn measure(mut group: Group) -> Vec<(String, f64)> {
-    let mut times: Vec<(String, f64)> = Vec::new();
-    for work in &mut group.works {
-        let time = work.nanoseconds(group.rounds, group.runs);
-        let base = times.first().map_or(time, |(_, first)| *first);
-        println!("| {} | {time:.0} ns | {:.2} |", work.name, time / base);
-        times.push((work.name.clone(), time));
+    let times = group.nanoseconds();
+    for (work, time) in group.works.iter().zip(&times) {
+        println!("| {} | {time:.0} ns | {:.2} |", work.name, time / times[0]);
     }
-    times
+    group.works.into_iter().map(|work| work.name).zip(times).collect()
 }
 
 /// Measures everything. Whether the names that should fall into one chain did so: the numbers of the hash stand in filled.rs once more, and could part
