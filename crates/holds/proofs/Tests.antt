@@ -1,19 +1,22 @@
 -- One hold tested as the model tests it, from what its row gives. Assumes nothing.
-use mathlib.Core.Path.{_≡_, sym, ap, _∙_}
-use mathlib.Core.Bool.{Bool, true, false, not}
+use mathlib.Core.Path.{_≡_, refl, sym, ap, _∙_}
+use mathlib.Core.Bool.{Bool, true, false, not, _||_}
 use mathlib.Core.List.{List}
 use mathlib.Core.Option.{some}
 use Prim.Native.Nat.{ℕ}
 use borrow.Author.Tests.{eq-eqb, ne-eqb}
 use lib.Dec.{eqb}
-use Rattle.model.specs.Tables.{Hold, Process, free-hold, user-of}
+use Rattle.model.specs.Lists.{same}
+use Rattle.model.specs.Tables.{Hold, Process, free-hold, same-place, user-of}
 use Rattle.model.specs.Sound.{is-end}
 use Rattle.model.specs.Holds.{on, inside, of-process}
+use Rattle.laws.proofs.Bools.{and-false, clash, neither-right, or-left, stopped}
+use Rattle.rows.specs.Blocks.{place-of}
 use Rattle.goals.specs.declared.Place.{Place}
 use Rattle.goals.specs.Goals.{place-at}
 use Rattle.holds.specs.declared.Scope.{Scope}
-use Rattle.holds.specs.declared.Scope.the-variants.{EndAt, Inside, Of}
-use Rattle.holds.specs.Scopes.{covers, of-another, in-the-way}
+use Rattle.holds.specs.declared.Scope.the-variants.{Nothing, EndAt, EntryAt, Inside, Of}
+use Rattle.holds.specs.Scopes.{covers, scope-directory, of-another, in-the-way}
 
 module _ (h : Hold) where
   -- a free row is nobody's hold
@@ -44,6 +47,22 @@ module _ (h : Hold) where
   unfolding covers of-process
   of-process-there {p = p} s e = ap (λ x. eqb x p) e ∙ ap (λ x. covers x h) (sym s)
 
+  pub no-directory : (d : ℕ) → d ≡ 0 → true ≡ (eqb d 0 || eqb (h .place .directory) d)
+  no-directory d z = sym (or-left (eqb (h .place .directory) d) (eq-eqb d 0 z))
+
+  pub elsewhere-asked : (d : ℕ) {k : ℕ} → (d ≡ 0 → ⊥) → k ≡ h .place .directory → eqb k d ≡ (eqb d 0 || eqb (h .place .directory) d)
+  elsewhere-asked d n e = ap (λ x. eqb x d) e ∙ sym (ap (λ b. b || eqb (h .place .directory) d) (ne-eqb d 0 n))
+
+  -- what stands in another directory than the scope's is not covered by it
+  elsewhere : (scope : Scope) → (eqb (scope-directory scope) 0 || eqb (h .place .directory) (scope-directory scope)) ≡ false → false ≡ covers scope h
+  unfolding covers scope-directory on inside same-place place-at place-of
+  elsewhere Nothing e = refl
+  elsewhere (EndAt q) e =
+      sym (and-false (is-end h) (on (some (place-at q)) h) (λ _. sym (stopped (same (h .place .name) (place-at q .name)) (neither-right (eqb (q .directory) 0) (eqb (h .place .directory) (q .directory)) e))))
+  elsewhere (EntryAt q) e = stopped (same (h .place .name) (place-at q .name)) (neither-right (eqb (q .directory) 0) (eqb (h .place .directory) (q .directory)) e)
+  elsewhere (Inside d) e = sym (neither-right (eqb d 0) (eqb (h .place .directory) d) e)
+  elsewhere (Of p) e = clash refl e
+
   module _ (processes : List Process) (scope : Scope) (user : ℕ) where
     pub way-covered : {a b : Bool} → a ≡ covers scope h → a ≡ true → b ≡ of-another processes user h → b ≡ in-the-way processes scope user h
     unfolding in-the-way
@@ -52,3 +71,8 @@ module _ (h : Hold) where
     pub way-free : {a : Bool} → a ≡ covers scope h → a ≡ false → false ≡ in-the-way processes scope user h
     unfolding in-the-way
     way-free e t = let k : covers scope h ≡ false = sym e ∙ t in simp k
+
+    -- a hold in another directory than the scope's is not in it
+    pub way-elsewhere : {a : Bool} {d : ℕ} → d ≡ scope-directory scope → a ≡ (eqb d 0 || eqb (h .place .directory) d) → a ≡ false
+        → false ≡ in-the-way processes scope user h
+    way-elsewhere e told left = way-free (elsewhere scope (ap (λ x. eqb x 0 || eqb (h .place .directory) x) (sym e) ∙ sym told ∙ left)) refl

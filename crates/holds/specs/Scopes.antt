@@ -19,6 +19,14 @@ covers (EntryAt q) h = on (some (place-at q)) h
 covers (Inside d) h = inside d h
 covers (Of p) h = of-process p h
 
+-- the directory in which all that it covers stands, 0 where there is none such
+unfoldable pub scope-directory : Scope → ℕ
+scope-directory Nothing = 0
+scope-directory (EndAt q) = q .directory
+scope-directory (EntryAt q) = q .directory
+scope-directory (Inside d) = d
+scope-directory (Of p) = 0
+
 unfoldable pub Scope-named : Scope → Type 0
 Scope-named Nothing = Unit {0}
 Scope-named (EndAt q) = Place-named q

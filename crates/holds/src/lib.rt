@@ -1,7 +1,8 @@
 // Holds over the lent words: who is in the way, and what is dropped. Each is what the model's definition of that name gives.
-ghost use mathlib.Core.Bool.{_&&_};
+ghost use mathlib.Core.Bool.{_&&_, _||_};
 ghost use mathlib.Core.Path.{_≡_};
 ghost use Prim.Native.Nat.{_<_};
+ghost use lib.Dec.{eqb};
 ghost use Rattle.model.specs.Lists.{any};
 ghost use Rattle.model.specs.Tables.{no-hold};
 ghost use Rattle.model.specs.Sound.{is-end};
@@ -10,7 +11,7 @@ ghost use Rattle.model.specs.Words.{unpack};
 ghost use Rattle.laws.specs.Clears.{clear-at};
 ghost use Rattle.rows.specs.Stands.{Stands, Becomes, with-holds, hold-row};
 ghost use Rattle.goals.specs.Goals.{goal-of, Walk-named};
-ghost use Rattle.holds.specs.Scopes.{covers, Scope-named, Scoped, of-another, in-the-way};
+ghost use Rattle.holds.specs.Scopes.{covers, scope-directory, Scope-named, Scoped, of-another, in-the-way};
 use edits::clear_hold;
 use goals::Place;
 use goals::Stop;
@@ -89,15 +90,41 @@ fn is_in_the_way(words: &[u32], row: usize, scope: Scope, user: u16) -> bool
     false
 }
 
-// Whether another user has a hold in the scope.
+fn directory_of(scope: Scope) -> u16
+    ensures { λ r. ⌜ r ≡ scope-directory scope ⌝ }
+{
+    match scope {
+        Scope::Nothing => 0,
+        Scope::EndAt(place) => place.directory,
+        Scope::EntryAt(place) => place.directory,
+        Scope::Inside(directory) => directory,
+        Scope::Of(_) => 0,
+    }
+}
+
+// Whether a hold of this row may be in a scope of this directory; 0 is for a scope that has none.
+fn may_be_covered(words: &[u32], row: usize, directory: u16) -> bool
+    requires { ⌜ (Stands (now words)) × (row < 256) ⌝ }
+    ensures { λ r. ⌜ r ≡ (eqb directory 0 || eqb (hold-row (now (words .entry)) row .place .directory) directory) ⌝ }
+{
+    if directory == 0 {
+        return true;
+    }
+    hold_directory(words, row) == directory
+}
+
+// Whether another user has a hold in the scope. Most rows stand in another directory, and are passed over by that alone.
 fn others_hold(words: &[u32], scope: Scope, user: u16) -> bool
     requires { ⌜ (Stands (now words)) × (Scope-named scope) ⌝ }
     ensures { λ r. ⌜ r ≡ any (in-the-way (unpack (now (words .entry)) .processes) scope user) (unpack (now (words .entry)) .holds) ⌝ }
 {
+    let directory = directory_of(scope);
     let mut i = 0;
     while i < HOLD_ROWS {
-        if is_in_the_way(words, i, scope, user) {
-            return true;
+        if may_be_covered(words, i, directory) {
+            if is_in_the_way(words, i, scope, user) {
+                return true;
+            }
         }
         i += 1;
     }
