@@ -1,7 +1,7 @@
-/* The stack that the archive's functions take, in bytes: each runs on a thread whose stack was painted before, and told is how far down the paint is gone,
- * counted from the frame that calls. The tables are those of the deepest walk: the last of the path's 127 names is a link, and the last of each target's
- * 32 names is the next one, so that each of the 383 names is looked up within the one before, and the ninth link is refused within the last. Fails where
- * TICKBUTTON_STACK is not enough. benches/run stack builds and runs it. */
+/* The stack that each function of the archive takes, in bytes: each runs on a thread that has TICKBUTTON_STACK bytes and no more, painted before, and
+ * told is how far down the paint is gone, counted from the frame that calls. The tables have the deepest walks: a link is followed within the walk of the
+ * target before, eight of them one within the other, and a ninth is refused there; behind eight links names are made and removed. Fails where a function takes
+ * more than MOST, or writes below its thread's stack. benches/run stack builds and runs it. */
 #define _POSIX_C_SOURCE 200809L
 #include <pthread.h>
 #include <stdio.h>
@@ -10,15 +10,21 @@
 
 #include "tickbutton.h"
 
-enum { ROOM = 2 * TICKBUTTON_STACK, PAINT = 0xA5, PATH_NAMES = TICKBUTTON_LONGEST_PATH / 2, TARGET_NAMES = TICKBUTTON_LONGEST_TARGET / 2 };
+enum {
+    MOST = 24 * 1024, /* bytes that a function may take: a quarter of the stack is the thread's own, and its caller's */
+    BELOW = 16 * 1024, /* bytes under the stack that have to keep their paint */
+    PAINT = 0xA5,
+    PATH_NAMES = TICKBUTTON_LONGEST_PATH / 2,
+    TARGET_NAMES = TICKBUTTON_LONGEST_TARGET / 2
+};
 
-static uint8_t stack[ROOM] __attribute__((aligned(4096)));
+static uint8_t memory[BELOW + TICKBUTTON_STACK] __attribute__((aligned(4096)));
 static const uint8_t *frame;
-static uint32_t words[TICKBUTTON_WORDS];
-static uint32_t goal[TICKBUTTON_GOAL];
+static uint32_t words[TICKBUTTON_WORDS], other_words[TICKBUTTON_WORDS];
+static uint32_t goal[TICKBUTTON_GOAL], fields[TICKBUTTON_FIELDS];
 static uint64_t answers[1], taken[1];
-static char deepest[TICKBUTTON_LONGEST_PATH + 1];
-static uint8_t record[TICKBUTTON_LONGEST_RECORD];
+static char deepest[TICKBUTTON_LONGEST_PATH + 1], file[TICKBUTTON_LONGEST_PATH + 1], twin[TICKBUTTON_LONGEST_PATH + 1];
+static uint8_t record[TICKBUTTON_LONGEST_RECORD], other_record[TICKBUTTON_LONGEST_RECORD];
 static size_t length;
 
 /* A path of so many names, all of them `a` but the last. */
@@ -31,7 +37,7 @@ static const char *path_of(char *path, int names, char last) {
 }
 
 /* Packs a call of process 1; ends the program where that is refused. */
-static void pack(enum tickbutton_call call, const char *path1, const char *path2) {
+static void pack_call(enum tickbutton_call call, const char *path1, const char *path2) {
     const uint64_t answer = tickbutton_pack(call, 1, 0, (const uint8_t *)path1, strlen(path1), (const uint8_t *)path2, strlen(path2), record, sizeof record);
     if (tickbutton_word(answer) == TICKBUTTON_REFUSED)
         exit(2);
@@ -39,30 +45,40 @@ static void pack(enum tickbutton_call call, const char *path1, const char *path2
 }
 
 /* Makes a call of process 1, which is root's and lets go of its holds afterwards; ends the program where it is refused. */
-static void call(enum tickbutton_call number, const char *path1, const char *path2) {
-    pack(number, path1, path2);
-    if (tickbutton_word(tickbutton_serve(words, TICKBUTTON_WORDS, record, length)) == TICKBUTTON_REFUSED)
+static void make_call(enum tickbutton_call call, const char *path1, const char *path2) {
+    if (tickbutton_word(tickbutton_ask(words, call, 1, 0, path1, path2)) == TICKBUTTON_REFUSED)
         exit(2);
-    pack(TICKBUTTON_EXEC, "", "");
-    tickbutton_serve(words, TICKBUTTON_WORDS, record, length);
+    tickbutton_ask(words, TICKBUTTON_EXEC, 1, 0, "", "");
 }
 
-/* Directories one within the other; the first link at the end of the path, each further one where the target before it ends. */
+/* Directories one within the other; the first link at the end of the path, each further one where the target before it ends. Behind the ninth, and so
+ * behind eight from the second on, is a directory. */
 static void make_tables(void) {
     char path[TICKBUTTON_LONGEST_PATH + 1], target[TICKBUTTON_LONGEST_PATH + 1];
     tickbutton_fresh(words, TICKBUTTON_WORDS);
-    call(TICKBUTTON_ENTER, "", "");
+    make_call(TICKBUTTON_ENTER, "", "");
     for (int names = 1; names < PATH_NAMES; names++)
-        call(TICKBUTTON_MKDIR, path_of(path, names, 'a'), "");
-    call(TICKBUTTON_SYMLINK, path_of(deepest, PATH_NAMES, 'l'), path_of(target, TARGET_NAMES, 'b'));
+        make_call(TICKBUTTON_MKDIR, path_of(path, names, 'a'), "");
+    make_call(TICKBUTTON_SYMLINK, path_of(deepest, PATH_NAMES, 'l'), path_of(target, TARGET_NAMES, 'b'));
     for (char link = 'b'; link <= 'a' + TICKBUTTON_MOST_LINKS; link++)
-        call(TICKBUTTON_SYMLINK, path_of(path, TARGET_NAMES, link), path_of(target, TARGET_NAMES, (char)(link + 1)));
-    pack(TICKBUTTON_CHECK, deepest, "");
+        make_call(TICKBUTTON_SYMLINK, path_of(path, TARGET_NAMES, link), path_of(target, TARGET_NAMES, (char)(link + 1)));
+    make_call(TICKBUTTON_MKDIR, target, "");
+    strcat(strcpy(file, path_of(path, TARGET_NAMES, 'b')), "/f");
+    strcat(strcpy(twin, path), "/t");
 }
+
+static uint64_t fresh(void) { return tickbutton_fresh(other_words, TICKBUTTON_WORDS); }
 
 static uint64_t sound(void) { return tickbutton_sound(words, TICKBUTTON_WORDS); }
 
 static uint64_t walk(void) { return tickbutton_walk(words, TICKBUTTON_WORDS, (const uint8_t *)deepest, strlen(deepest), true, goal); }
+
+static uint64_t read_record(void) { return tickbutton_read(record, length, fields); }
+
+static uint64_t pack(void) {
+    return tickbutton_pack(TICKBUTTON_LINK, 1, 0, (const uint8_t *)deepest, strlen(deepest), (const uint8_t *)deepest, strlen(deepest), other_record,
+                           sizeof other_record);
+}
 
 static uint64_t serve(void) { return tickbutton_serve(words, TICKBUTTON_WORDS, record, length); }
 
@@ -71,23 +87,34 @@ static uint64_t serve_run(void) {
     return answers[0];
 }
 
-/* What is measured, and the number that shows that it went all the way. */
+/* What is measured, with the record of which call, and the answer that shows that it went all the way. */
 static const struct measured {
     const char *name;
     uint64_t (*run)(void);
-    uint32_t number;
+    enum tickbutton_call call;
+    const char *path1, *path2;
+    enum tickbutton_word word;
 } all[] = {
-    {"sound", sound, 0},
-    {"walk", walk, TICKBUTTON_NINTH_LINK},
-    {"serve a check", serve, TICKBUTTON_NINTH_LINK},
-    {"serve_run of a check", serve_run, TICKBUTTON_NINTH_LINK},
+    {"fresh", fresh, TICKBUTTON_EXEC, "", "", TICKBUTTON_DONE},
+    {"sound", sound, TICKBUTTON_EXEC, "", "", TICKBUTTON_DONE},
+    {"pack", pack, TICKBUTTON_EXEC, "", "", TICKBUTTON_DONE},
+    {"read", read_record, TICKBUTTON_LINK, deepest, deepest, TICKBUTTON_DONE},
+    {"walk, a ninth link refused", walk, TICKBUTTON_EXEC, "", "", TICKBUTTON_REFUSED},
+    {"serve a check, a ninth link refused", serve, TICKBUTTON_CHECK, deepest, "", TICKBUTTON_REFUSED},
+    {"serve_run of a check, a ninth link refused", serve_run, TICKBUTTON_CHECK, deepest, "", TICKBUTTON_REFUSED},
+    {"serve_run of a create behind eight links", serve_run, TICKBUTTON_CREATE, file, "", TICKBUTTON_DONE},
+    {"serve_run of a use behind eight links", serve_run, TICKBUTTON_USE, file, "", TICKBUTTON_HELD},
+    {"serve_run of a link, both paths behind eight links", serve_run, TICKBUTTON_LINK, twin, file, TICKBUTTON_DONE},
+    {"serve_run of an unlink behind eight links", serve_run, TICKBUTTON_UNLINK, file, "", TICKBUTTON_DONE},
+    {"serve_run of a mkdir behind eight links", serve_run, TICKBUTTON_MKDIR, file, "", TICKBUTTON_DONE},
+    {"serve_run of an rmdir behind eight links", serve_run, TICKBUTTON_RMDIR, file, "", TICKBUTTON_DONE},
 };
 
 /* Runs one of them and remembers the frame from which it was called. */
 static void *on_thread(void *argument) {
     const struct measured *const one = (const struct measured *)argument;
     frame = (const uint8_t *)__builtin_frame_address(0);
-    if (tickbutton_number(one->run()) != one->number)
+    if (tickbutton_word(one->run()) != one->word)
         exit(2);
     return NULL;
 }
@@ -97,13 +124,18 @@ static size_t bytes_of(const struct measured *one) {
     pthread_t thread;
     pthread_attr_t attributes;
     size_t lowest = 0;
-    memset(stack, PAINT, sizeof stack);
-    if (pthread_attr_init(&attributes) != 0 || pthread_attr_setstack(&attributes, stack, sizeof stack) != 0 ||
+    pack_call(one->call, one->path1, one->path2);
+    memset(memory, PAINT, sizeof memory);
+    if (pthread_attr_init(&attributes) != 0 || pthread_attr_setstack(&attributes, memory + BELOW, TICKBUTTON_STACK) != 0 ||
         pthread_create(&thread, &attributes, on_thread, (void *)one) != 0 || pthread_join(thread, NULL) != 0)
         exit(2);
-    while (stack[lowest] == PAINT)
+    while (memory[lowest] == PAINT)
         lowest++;
-    return (size_t)(frame - (stack + lowest));
+    if (lowest < BELOW) {
+        printf("%s writes below a stack of %d bytes\n", one->name, (int)TICKBUTTON_STACK);
+        exit(1);
+    }
+    return (size_t)(frame - (memory + lowest));
 }
 
 int main(void) {
@@ -113,9 +145,9 @@ int main(void) {
     for (size_t place = 0; place < sizeof all / sizeof *all; place++) {
         const size_t bytes = bytes_of(&all[place]);
         printf("| %s | %zu |\n", all[place].name, bytes);
-        enough &= bytes <= TICKBUTTON_STACK;
+        enough &= bytes <= MOST;
     }
     if (!enough)
-        printf("more than the %d bytes of TICKBUTTON_STACK\n", (int)TICKBUTTON_STACK);
+        printf("more than %d bytes\n", (int)MOST);
     return !enough;
 }

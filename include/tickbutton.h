@@ -9,8 +9,8 @@
  * overlap with what is read. Nothing else is required: any numbers and any bytes are answered. No function keeps a pointer, allocates, or
  * has a state of its own, so that different tables may be served by different threads at once; one set of tables is for one thread at a time.
  *
- * The walk of a path takes stack for each of its names and of the names that its links lead through, 661 KiB for the deepest: a thread that
- * calls needs TICKBUTTON_STACK bytes. Threads of glibc have more where nothing else is asked; those of some other libraries have less. */
+ * The walk of a path takes stack for each link that it follows within another, 10 KiB in all for the deepest: a thread that calls needs
+ * TICKBUTTON_STACK bytes, which leaves more than half of them to the thread itself and to its callers. */
 #ifndef TICKBUTTON_H
 #define TICKBUTTON_H
 
@@ -34,7 +34,7 @@ enum {
     TICKBUTTON_LONGEST_PATH = 255,   /* bytes */
     TICKBUTTON_LONGEST_RECORD = 517, /* bytes: 7, and two paths */
     TICKBUTTON_MOST_LINKS = 8,       /* links that one walk follows */
-    TICKBUTTON_STACK = 1048576       /* bytes of stack, enough for every function (docs/BENCHMARKS.md) */
+    TICKBUTTON_STACK = 32768         /* bytes of stack, enough for every function (docs/BENCHMARKS.md) */
 };
 
 /* ---- The functions. Each but `tickbutton_serve_run` gives an answer as one number, to be taken apart below. ---- */

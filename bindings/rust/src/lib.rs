@@ -19,7 +19,7 @@
 //! ```
 //!
 //! Names, targets and paths have the lengths of [`limits`], and the walk of a path takes stack for
-//! each of its names: a thread that calls needs [`limits::STACK`] bytes.
+//! each link followed within another: a thread that calls needs [`limits::STACK`] bytes.
 //!
 //! What each function of the archive gives is proved of its code (crates/exports). That it is
 //! declared right here is not, so the declarations stand in one place, the module [`archive`]; what

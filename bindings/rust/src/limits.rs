@@ -14,6 +14,5 @@ pub const HEAD: usize = 7;
 /// The bytes of the longest record.
 pub const LONGEST_RECORD: usize = HEAD + 2 * LONGEST_PATH;
 /// The bytes of stack that are enough for every function of the archive. The deepest walk takes
-/// 661 KiB of them (docs/BENCHMARKS.md); a thread that Rust starts has twice as many where nothing
-/// else is asked.
-pub const STACK: usize = 1 << 20;
+/// 10 KiB of them (docs/BENCHMARKS.md).
+pub const STACK: usize = 32768;

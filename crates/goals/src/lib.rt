@@ -1,7 +1,7 @@
 // Where a walk stopped, as the code has it: what the walk answers and the calls go on with.
 ghost use mathlib.Core.Path.{_≡_};
 ghost use Rattle.model.specs.Calls.{absent};
-ghost use Rattle.goals.specs.Goals.{goal-of};
+ghost use Rattle.goals.specs.Goals.{node-at-end, goal-of};
 use rows::Block;
 use rows::ROOT;
 
@@ -25,15 +25,22 @@ pub struct Walk {
     pub elements: [Place; 8],
 }
 
-pub fn node_of(walk: Walk) -> u16
-    ensures { λ r. ⌜ r ≡ goal-of walk .node ⌝ }
+// The node where a walk stopped, 0 for a refusal.
+pub fn node_at_end(stop: Stop) -> u16
+    ensures { λ r. ⌜ r ≡ node-at-end stop ⌝ }
 {
-    let stop = walk.stop;
     match stop {
         Stop::Refused(_) => 0,
         Stop::Root => ROOT,
         Stop::Entry { place: _, node } => node,
     }
+}
+
+pub fn node_of(walk: Walk) -> u16
+    ensures { λ r. ⌜ r ≡ goal-of walk .node ⌝ }
+{
+    let stop = walk.stop;
+    node_at_end(stop)
 }
 
 pub fn is_absent(walk: Walk) -> bool

@@ -2,21 +2,20 @@
 use mathlib.Core.Path.{_≡_, refl, sym, ap, ap₂, _∙_}
 use mathlib.Core.Bool.{Bool, true, false, not}
 use mathlib.Core.List.{List}
-use Prim.Native.Nat.{ℕ, _+_, _-_, _≤_, _<_}
+use Prim.Native.Nat.{ℕ, zero, suc, _+_, _-_, _≤_, _<_}
 use native.Mathlib.Omega.{arith}
 use borrow.Author.Tests.{eq-eqb, ne-eqb}
 use lib.Dec.{eqb}
 use lib.ListN.{getD, set, replicate}
-use Rattle.model.specs.Lists.{find, any}
 use Rattle.model.specs.Tables.{Place, Entry, no-entry, free-entry, at, lookup}
 use Rattle.model.specs.Sound.{same-entry, entries-distinct}
 use Rattle.model.specs.Words.{unpack}
 use Rattle.laws.proofs.Distinct.{none-by-place}
-use Rattle.laws.proofs.Members.{at-in, each-in, find-in}
+use Rattle.laws.proofs.Members.{at-in}
 use Rattle.laws.proofs.Places.{same-place-self, same-place-equal, same-place-directory}
 use Rattle.laws.proofs.Rules.{find-only}
 use Rattle.laws.proofs.Searches.{find-missing}
-use Rattle.invariants.proofs.Words.{Entry-fits, unpacked-fits, name-back as name-comes-back}
+use Rattle.invariants.proofs.Words.{name-back as name-comes-back}
 use Rattle.rows.specs.declared.Block.{Block}
 use Rattle.rows.specs.Blocks.{Named, block-of, place-of, name-of}
 use Rattle.rows.specs.Stands.{Stands, entry-row}
@@ -25,7 +24,7 @@ use Rattle.rows.proofs.Fields.{entry-row-fits}
 use Rattle.rows.proofs.Parts.{entries-full}
 use Rattle.index.specs.Buckets.{last-below, in-bucket, Chained}
 use Rattle.index.specs.Descent.{Descent}
-use Rattle.index.specs.Indexed.{place-bucket, entry-used, entry-bucket, row-at, Chain-of, Indexed}
+use Rattle.index.specs.Indexed.{place-bucket, entry-used, entry-bucket, row-at, row-found, node-in, Chain-of, Indexed}
 use Rattle.index.proofs.Apart.{Apart-chained, apart-starts, apart-past, apart-more, apart-twice, apart-ends, all-chained}
 use Rattle.index.proofs.Buckets.{last-within, last-passes, none-below, in-own-bucket}
 
@@ -162,36 +161,53 @@ module _ (w heads next : List ℕ) where
 
 -- A LOOKUP BY IT
 
-module _ (w : List ℕ) (d : ℕ) (b : Block) where
-  -- a place with no directory leads nowhere
-  pub lookup-in-none : d ≡ 0 → 0 ≡ lookup (unpack w .entries) (place-of d b)
-  unfolding lookup at place-of
-  lookup-in-none z = go (any (at (place-of d b)) (unpack w .entries)) refl
-    where
-      free-there : (x : Entry) → Entry-fits x → at (place-of d b) x ≡ true → 0 ≡ x .node
-      free-there x f t = ap (λ (y : Entry). y .node) (sym (f .free (same-place-directory (x .place) (place-of d b) t ∙ z)))
+-- the row that is found is one of the table's
+pub found-within : (w : List ℕ) (q : Place) → row-found w q ≤ 512
+unfolding row-found
+found-within w q = last-within (row-at w q) 512
 
-      go : (c : Bool) → any (at (place-of d b)) (unpack w .entries) ≡ c → 0 ≡ find (at (place-of d b)) no-entry (unpack w .entries) .node
-      go true t =
-          let found = find-in (at (place-of d b)) no-entry (unpack w .entries) t in
-          free-there (find (at (place-of d b)) no-entry (unpack w .entries)) (each-in (unpacked-fits w .entries-fit) (found .0)) (found .1)
-      go false t = ap (λ (x : Entry). x .node) (sym (find-missing (at (place-of d b)) no-entry (unpack w .entries) t))
+pub found-last : (w : List ℕ) (q : Place) {l : ℕ} → l ≡ last-below (row-at w q) 512 → l ≤ 512
+found-last w q e = rw e (last-within (row-at w q) 512)
 
-  pub lookup-absent : {l : ℕ} → l ≡ last-below (row-at w (place-of d b)) 512 → l ≡ 0 → 0 ≡ lookup (unpack w .entries) (place-of d b)
-  unfolding lookup
-  lookup-absent e z =
-      sym (ap (λ (x : Entry). x .node) (find-missing (at (place-of d b)) no-entry (unpack w .entries)
-      (none-by-place (at (place-of d b)) no-entry (unpack w .entries) (λ k h. none-below (row-at w (place-of d b)) 512 (sym e ∙ z) k (omega (arith, entries-full w))))))
+-- and has the place
+pub found-place : (w : List ℕ) (q : Place) {row : ℕ} → row-found w q ≡ suc row → entry-row w row .place ≡ q
+unfolding row-found at
+found-place w q {row} e =
+    let here : row-found w q - 1 ≡ row = omega arith in
+    same-place-equal (entry-row w row .place) q (rw here at (last-passes (row-at w q) 512 (λ z. omega arith)))
 
-  pub lookup-found : {l n : ℕ} → (d ≡ 0 → ⊥) → entries-distinct (unpack w) ≡ true → l ≡ last-below (row-at w (place-of d b)) 512 → (l ≡ 0 → ⊥)
-      → n ≡ entry-row w (l - 1) .node → n ≡ lookup (unpack w .entries) (place-of d b)
-  unfolding lookup entries-distinct at same-entry place-of
-  lookup-found {l} u D e z f =
-      let q = place-of d b in
-      let t : at (place-of d b) (entry-row w (l - 1)) ≡ true
-      = ap (λ x. row-at w (place-of d b) (x - 1)) e ∙ last-passes (row-at w (place-of d b)) 512 (λ y. z (e ∙ y)) in
-      let o = last-within (row-at w (place-of d b)) 512 in
-      f ∙ ap (λ (x : Entry). x .node) (sym (find-only free-entry same-entry (at (place-of d b)) no-entry
-      (λ x h. with-directory x (λ y. u (sym (same-place-directory (x .place) q h) ∙ y)))
-      (λ x y h k. rw (same-place-equal (x .place) q h, same-place-equal (y .place) q k) (same-place-self q))
-      (unpack w .entries) (entry-row w (l - 1)) D (at-in (unpack w .entries) (l - 1) no-entry (omega (arith, entries-full w))) t))
+-- the node of a row that is told so
+pub node-in-none : (w : List ℕ) (found : ℕ) → found ≡ 0 → 0 ≡ node-in w found
+unfolding node-in
+node-in-none w found z = rw z
+
+pub node-in-row : (w : List ℕ) (found : ℕ) → (found ≡ 0 → ⊥) → entry-row w (found - 1) .node ≡ node-in w found
+unfolding node-in
+node-in-row w zero n = absurd (n refl)
+node-in-row w (suc row) n = let here : suc row - 1 ≡ row = omega arith in ap (λ r. entry-row w r .node) here
+
+-- none is found where the place is absent
+pub found-none : (w : List ℕ) (q : Place) → row-found w q ≡ 0 → 0 ≡ lookup (unpack w .entries) q
+unfolding row-found lookup
+found-none w q e =
+    sym (ap (λ (x : Entry). x .node) (find-missing (at q) no-entry (unpack w .entries)
+    (none-by-place (at q) no-entry (unpack w .entries) (λ k h. none-below (row-at w q) 512 e k (omega (arith, entries-full w))))))
+
+-- the entry that is found is the only one there
+found-only : (w : List ℕ) (q : Place) {row : ℕ} → (q .directory ≡ 0 → ⊥) → entries-distinct (unpack w) ≡ true → row-found w q ≡ suc row
+    → entry-row w row .node ≡ lookup (unpack w .entries) q
+unfolding lookup entries-distinct at same-entry
+found-only w q {row} u D e =
+    let t : at q (entry-row w row) ≡ true = rw (found-place w q e) (same-place-self q) in
+    ap (λ (x : Entry). x .node) (sym (find-only free-entry same-entry (at q) no-entry
+    (λ x h. with-directory x (λ y. u (sym (same-place-directory (x .place) q h) ∙ y)))
+    (λ x y h k. rw (same-place-equal (x .place) q h, same-place-equal (y .place) q k) (same-place-self q))
+    (unpack w .entries) (entry-row w row) D (at-in (unpack w .entries) row no-entry (omega (arith, found-within w q, entries-full w))) t))
+
+pub node-found-there : (w : List ℕ) (q : Place) → (q .directory ≡ 0 → ⊥) → entries-distinct (unpack w) ≡ true → node-in w (row-found w q) ≡ lookup (unpack w .entries) q
+unfolding node-in
+node-found-there w q u D = go (row-found w q) refl
+  where
+    go : (found : ℕ) → row-found w q ≡ found → node-in w found ≡ lookup (unpack w .entries) q
+    go zero e = found-none w q e
+    go (suc row) e = found-only w q u D e

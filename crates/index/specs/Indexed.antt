@@ -2,8 +2,8 @@
 use mathlib.Core.Path.{_≡_}
 use mathlib.Core.Bool.{Bool, true, not}
 use mathlib.Core.List.{List}
-use Prim.Native.Nat.{ℕ, _+_, _*_, _%_, _≤_}
-use Rattle.model.specs.Tables.{Place, free-entry, at}
+use Prim.Native.Nat.{ℕ, zero, suc, _+_, _*_, _%_, _≤_}
+use Rattle.model.specs.Tables.{Place, free-entry, at, entry-rows}
 use Rattle.model.specs.Words.{unpack}
 use Rattle.model.specs.Sound.{entries-distinct}
 use Rattle.rows.specs.declared.Block.{Block}
@@ -27,6 +27,15 @@ entry-bucket w k = place-bucket (entry-row w k .place .directory) (block-of (ent
 -- the entry of row k is at the place
 abbrev pub row-at : List ℕ → Place → ℕ → Bool
 row-at w q k = at q (entry-row w k)
+
+-- one more than the row of the entry at the place, 0 for an absence; of the last, where several were there
+unfoldable pub row-found : List ℕ → Place → ℕ
+row-found w q = last-below (row-at w q) entry-rows
+
+-- the node that the entry of a row leads to, where the row is told so
+unfoldable pub node-in : List ℕ → ℕ → ℕ
+node-in w zero = 0
+node-in w (suc row) = entry-row w row .node
 
 -- the chain of a place's bucket, from `from` down, over the rows below `limit`
 pub record Chain-of (w next : List ℕ) (from d : ℕ) (b : Block) (limit : ℕ) : Type 0 where

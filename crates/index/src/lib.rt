@@ -2,15 +2,15 @@
 // after a write to the entries.
 ghost use mathlib.Core.Path.{_≡_};
 ghost use mathlib.Core.Bool.{true};
-ghost use Prim.Native.Nat.{_<_};
+ghost use mathlib.Core.Logic.{_≢_};
+ghost use Prim.Native.Nat.{_≤_, _<_};
 ghost use lib.ListN.{replicate};
 ghost use Rattle.model.specs.Sound.{entries-distinct};
-ghost use Rattle.model.specs.Tables.{lookup};
 ghost use Rattle.model.specs.Words.{unpack};
 ghost use Rattle.rows.specs.Blocks.{Named, place-of};
 ghost use Rattle.rows.specs.Stands.{Stands};
 ghost use Rattle.index.specs.Buckets.{last-below};
-ghost use Rattle.index.specs.Indexed.{sum-of, place-bucket, row-at, Chain-of, Indexed};
+ghost use Rattle.index.specs.Indexed.{sum-of, place-bucket, row-at, row-found, node-in, Chain-of, Indexed};
 use rows::Block;
 use rows::ENTRY_ROWS;
 use rows::entry_directory;
@@ -49,22 +49,26 @@ pub fn index_entries(
     true
 }
 
-// The node that the entry at a place leads to, 0 for an absence.
-pub fn lookup(
+// One more than the row of the entry at a place, 0 for an absence.
+pub fn find_entry(
     words: &[u32],
     heads: &[u16; BUCKETS],
     next: &[u16; ENTRY_ROWS],
     directory: u16,
     name: Block,
-) -> u16
-    requires { ⌜ (Indexed (now words) (now heads) (now next)) × (Named name) ⌝ }
-    ensures { λ r. ⌜ r ≡ lookup (unpack (now (words .entry)) .entries) (place-of directory name) ⌝ }
+) -> usize
+    requires { ⌜ (Indexed (now words) (now heads) (now next)) × ((Named name) × (directory ≢ 0)) ⌝ }
+    ensures { λ r. ⌜ (r ≡ row-found (now (words .entry)) (place-of directory name)) × (r ≤ 512) ⌝ }
 {
-    if directory == 0 {
-        return 0;
-    }
     let bucket = bucket_of(directory, name);
-    let found = last_at(words, next, heads[bucket], directory, name, ENTRY_ROWS);
+    last_at(words, next, heads[bucket], directory, name, ENTRY_ROWS)
+}
+
+// The node that the entry of a row leads to, told as `find_entry` tells rows; 0 for an absence.
+pub fn node_found(words: &[u32], found: usize) -> u16
+    requires { ⌜ (Stands (now words)) × (found ≤ 512) ⌝ }
+    ensures { λ r. ⌜ r ≡ node-in (now (words .entry)) found ⌝ }
+{
     if found == 0 {
         return 0;
     }

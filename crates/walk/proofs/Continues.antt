@@ -1,131 +1,189 @@
 -- A walk goes on behind the links followed before: what the code keeps of them is what the model puts in front. Assumes nothing.
-use mathlib.Core.Path.{_≡_, refl, sym, ap, _∙_}
+use mathlib.Core.Path.{_≡_, refl, sym, ap, subst, _∙_}
 use mathlib.Core.Bool.{Bool, true, false, true≢false}
 use mathlib.Core.Option.{Option, none, some}
 use mathlib.Core.List.{List, [], _∷_, _++_, map}
 use Prim.Native.Nat.{ℕ, zero, suc, _+_, _-_, _≤_}
 use native.Mathlib.Omega.{arith}
 use native.Mathlib.Numerals.{add-one}
-use lib.ListN.{length, set, drop, replicate, length-map}
+use borrow.Author.Tests.{eqb-true, eqb-false}
+use denote.Enum.Declared.{tagOf}
+use types.Run.{OneOf, miss}
+use lib.Dec.{eqb}
+use lib.ListN.{length, set, drop, replicate, length-replicate}
 use lib.Seq.{sets, sets-eq}
 use Rattle.model.specs.Refusals.{Outcome, refused, granted, _>>=_}
 use Rattle.model.specs.Paths.{Name}
-use Rattle.model.specs.Tables as model-tables
-use Rattle.model.specs.Walk.{Goal, after-link}
-use Rattle.goals.specs.declared.Place.{Place}
-use Rattle.goals.specs.declared.Stop.the-variants.{Entry}
-use Rattle.goals.specs.declared.Walk.{Walk}
-use Rattle.goals.specs.Goals.{place-row, blank, room-of, stop-of, walked, node-at-end}
+use Rattle.model.specs.Tables.{Place, Entry, Node, a-directory, node-at, is-directory}
+use Rattle.model.specs.Walk.{Goal, after-link, walk-within}
+use Rattle.goals.proofs.Stop.{the-type}
+use Rattle.goals.specs.declared.Stop.{Stop}
+use Rattle.goals.specs.declared.Stop.the-variants.{Refused, Root, Entry as Stopped-at}
+use Rattle.goals.specs.Goals.{place-row, stop-of, node-at-end}
+use Rattle.walk.specs.declared.Stretch.{Stretch}
 use Rattle.walk.specs.declared.Trail.{Trail}
-use Rattle.walk.specs.Trails.{continued, with-element, is-refused, entered}
-use Rattle.walk.proofs.Legs.{prefixed, onward}
+use Rattle.walk.specs.Trails.{turned-away, continued, through, onward-from, by-kind, only-directory}
+use Rattle.walk.proofs.Legs.{prefixed, entered, onward, enter-nothing, enter-other, enter-directory}
 use Rattle.walk.proofs.Ends.{Ends}
 
--- ONE LINK MORE
+prefixed-refused : (es : List Place) (n : ℕ) → prefixed es (refused n) ≡ refused n
+unfolding prefixed after-link
+prefixed-refused [] n = refl
+prefixed-refused (q ∷ es) n = ap (after-link q) (prefixed-refused es n)
 
-pub continued-link : (t : Trail) (q : model-tables.Place) (o : Outcome Goal) → continued (with-element t (place-row q)) o ≡ continued t (after-link q o)
-unfolding continued with-element after-link
-continued-link t q (refused n) = refl
-continued-link t q (granted g) =
-    let many : t .count + 1 + length (g .elements) ≡ t .count + suc (length (g .elements)) = omega arith in
-    let room : sets (set (t .elements) (t .count) (place-row q)) (t .count + 1) (map place-row (g .elements))
-    ≡ sets (set (t .elements) (t .count) (place-row q)) (suc (t .count)) (map place-row (g .elements)) = rw (add-one) in
-    λ i. record { stop = stop-of (g .end) (g .node); count = many i; elements = room i }
+module _ (row : Place → ℕ) where
+  -- ONE LINK MORE
 
--- ALL LINKS OF A FIRST LEG
+  pub continued-link : (t : Trail) (q : Place) (begin : ℕ) (o : Outcome Goal) → continued row (through t (row q) begin) o ≡ continued row t (after-link q o)
+  unfolding continued after-link
+  continued-link t q begin (refused n) = refl
+  continued-link t q begin (granted g) =
+      let many : t .count + 1 + length (g .elements) ≡ t .count + suc (length (g .elements)) = omega arith in
+      let room : sets (set (t .rows) (t .count) (row q)) (t .count + 1) (map row (g .elements))
+      ≡ sets (set (t .rows) (t .count) (row q)) (suc (t .count)) (map row (g .elements)) = rw (add-one) in
+      λ i. record { stop = stop-of (g .end) (g .node); count = many i; rows = room i }
 
--- what the code keeps after a leg
-unfoldable pub trail-after : Trail → List model-tables.Place → Trail
-trail-after t es = record { count = t .count + length es; elements = sets (t .elements) (t .count) (map place-row es) }
+  -- ALL LINKS OF A FIRST LEG
 
-trail-after-one : (t : Trail) (q : model-tables.Place) (es : List model-tables.Place) → trail-after (with-element t (place-row q)) es ≡ trail-after t (q ∷ es)
-unfolding trail-after with-element
-trail-after-one t q es =
-    let many : t .count + 1 + length es ≡ t .count + suc (length es) = omega arith in
-    let room : sets (set (t .elements) (t .count) (place-row q)) (t .count + 1) (map place-row es)
-    ≡ sets (set (t .elements) (t .count) (place-row q)) (suc (t .count)) (map place-row es) = rw (add-one) in
-    λ i. record { count = many i; elements = room i }
+  -- what the code keeps after a leg that came to node n
+  unfoldable trail-after : Trail → ℕ → List Place → Trail
+  trail-after t n es = record { directory = n; count = t .count + length es; rows = sets (t .rows) (t .count) (map row es) }
 
-trail-after-none : (t : Trail) → trail-after t [] ≡ t
-unfolding trail-after
-trail-after-none t = let e : t .count + 0 ≡ t .count = omega arith in λ i. record { count = e i; elements = t .elements }
+  trail-after-one : (t : Trail) (n : ℕ) (q : Place) (es : List Place) → trail-after (through t (row q) n) n es ≡ trail-after t n (q ∷ es)
+  unfolding trail-after
+  trail-after-one t n q es =
+      let many : t .count + 1 + length es ≡ t .count + suc (length es) = omega arith in
+      let room : sets (set (t .rows) (t .count) (row q)) (t .count + 1) (map row es) ≡ sets (set (t .rows) (t .count) (row q)) (suc (t .count)) (map row es)
+      = rw (add-one) in
+      λ i. record { directory = n; count = many i; rows = room i }
 
-continued-leg : (t : Trail) (es : List model-tables.Place) (o : Outcome Goal) → continued (trail-after t es) o ≡ continued t (prefixed es o)
-unfolding prefixed
-continued-leg t [] o = rw (trail-after-none t)
-continued-leg t (q ∷ es) o =
-    ap (λ (u : Trail). continued u o) (sym (trail-after-one t q es)) ∙ continued-leg (with-element t (place-row q)) es o
-    ∙ continued-link t q (prefixed es o)
+  -- where the walk stands does not show in what it has followed
+  trail-after-none : (t : Trail) (n : ℕ) (o : Outcome Goal) → continued row (trail-after t n []) o ≡ continued row t o
+  unfolding continued trail-after
+  trail-after-none t n (refused m) = refl
+  trail-after-none t n (granted g) = let e : t .count + 0 ≡ t .count = omega arith in rw e
+
+  continued-leg : (t : Trail) (n : ℕ) (es : List Place) (o : Outcome Goal) → continued row (trail-after t n es) o ≡ continued row t (prefixed es o)
+  unfolding prefixed
+  continued-leg t n [] o = trail-after-none t n o
+  continued-leg t n (q ∷ es) o =
+      ap (λ (u : Trail). continued row u o) (sym (trail-after-one t n q es)) ∙ continued-leg (through t (row q) n) n es o
+      ∙ continued-link t q n (prefixed es o)
 
 -- HOW A LEG ENDED
 
-pub refused-leg : (t : Trail) (o : Outcome Goal) (r : Walk) → r ≡ continued t o → is-refused (r .stop) ≡ true → (f : Goal → Outcome Goal) → r ≡ continued t (o >>= f)
-unfolding continued is-refused stop-of _>>=_
-refused-leg t (refused n) r e s f = e
-refused-leg t (granted g) r e s f = go (g .end) (sym (ap (λ (w : Walk). is-refused (w .stop)) e) ∙ s)
-  where
-    go : (q : Option model-tables.Place) → is-refused (stop-of q (g .node)) ≡ true → r ≡ continued t (f g)
-    go none z = absurd (true≢false (sym z))
-    go (some q) z = absurd (true≢false (sym z))
+unfoldable pub is-refused : Stop → Bool
+is-refused (Refused n) = true
+is-refused Root = false
+is-refused (Stopped-at q n) = false
 
--- a leg that was not refused: the goal that it reached, and what the code has of it
-pub record Reached (t : Trail) (k : ℕ) (o : Outcome Goal) (r : Walk) : Type 0 where
-  pub goal : Goal
-  pub granted-with : o ≡ granted goal
-  pub node : node-at-end (r .stop) ≡ goal .node
-  pub count : r .count ≡ t .count + length (goal .elements)
-  pub elements : r .elements ≡ sets (t .elements) (t .count) (map place-row (goal .elements))
-  pub few : length (goal .elements) ≤ k
+-- as the code tells the variants apart
+pub not-refused : (s : Stop) → OneOf (1 ∷ 2 ∷ []) (tagOf the-type s) → is-refused s ≡ false
+unfolding is-refused
+not-refused (Refused n) e = absurd (miss (1 ∷ 2 ∷ []) 0 tt e)
+not-refused Root e = refl
+not-refused (Stopped-at q n) e = refl
 
-pub reached : (t : Trail) (k : ℕ) (o : Outcome Goal) (r : Walk) → Ends k o → r ≡ continued t o → is-refused (r .stop) ≡ false → Reached t k o r
-unfolding continued is-refused Ends walked node-at-end stop-of
-reached t k (refused n) r ends e s = absurd (true≢false (sym (ap (λ (w : Walk). is-refused (w .stop)) e) ∙ s))
-reached t k (granted g) r ends e s =
-    record {
-      goal = g;
-      granted-with = refl;
-      node = ap (λ (w : Walk). node-at-end (w .stop)) e ∙ end-node (g .end) refl;
-      count = ap (λ (w : Walk). w .count) e;
-      elements = ap (λ (w : Walk). w .elements) e;
-      few = ends .few;
-    }
-  where
-    end-node : (q : Option model-tables.Place) → g .end ≡ q → node-at-end (stop-of q (g .node)) ≡ g .node
-    end-node none z = sym (ends .root z)
-    end-node (some q) z = refl
+module _ (row : Place → ℕ) (entries : List Entry) (nodes : List Node) (root : is-directory nodes 1 ≡ true) (follow-last : Bool) (rest : List Name) (t : Trail) where
+  -- the links that were left
+  abbrev k : ℕ
+  k = 8 - t .count
 
--- THE NEXT LEG
+  -- A first leg that came to o and was answered r: with it the whole walk is refused, or it goes on from the directory that the leg reached.
+  data Leg (o : Outcome Goal) (r : Stretch) : Type 0 where
+    stopped : (n : ℕ) → (o >>= onward entries nodes follow-last k rest) ≡ refused n → only-directory nodes (r .stop) ≡ Refused n → Leg o r
+    goes-on : (g : Goal) → o ≡ granted g → is-refused (only-directory nodes (r .stop)) ≡ false → node-at-end (r .stop) ≡ g .node →
+        is-directory nodes (g .node) ≡ true → Leg o r
 
-module _ (entries : List model-tables.Entry) (nodes : List model-tables.Node) (follow-last : Bool) (rest : List Name) where
-  pub next-leg : (t : Trail) (o : Outcome Goal) (r : Walk) → t .count ≤ 8 → (h : Reached t (8 - t .count) o r) →
-      continued (record { count = r .count; elements = r .elements }) (entered entries nodes follow-last (8 - r .count) (node-at-end (r .stop)) rest)
-      ≡ continued t (o >>= onward entries nodes follow-last (8 - t .count) rest)
-  unfolding _>>=_ onward trail-after
-  next-leg t o r few h =
-      let left : 8 - r .count ≡ 8 - t .count - length (h .goal .elements) = let c = h .count in omega arith in
-      let trail : _≡_ {A = Trail} (record { count = r .count; elements = r .elements }) (trail-after t (h .goal .elements)) = λ i. record { count = h .count i; elements = h .elements i } in
-      (λ i. continued (trail i) (entered entries nodes follow-last (left i) (h .node i) rest))
-      ∙ continued-leg t (h .goal .elements) (entered entries nodes follow-last (8 - t .count - length (h .goal .elements)) (h .goal .node) rest)
-      ∙ ap (λ (p : Outcome Goal). continued t (p >>= onward entries nodes follow-last (8 - t .count) rest)) (sym (h .granted-with))
+  -- the second leg of a walk whose first came to g
+  abbrev second : Goal → Outcome Goal
+  second g = entered entries nodes follow-last (k - length (g .elements)) (g .node) rest
+
+  leg-at : (g : Goal) (r : Stretch) (q : Place) → r .stop ≡ Stopped-at (place-row q) (g .node) → Leg (granted g) r
+  unfolding only-directory by-kind is-refused node-at-end _>>=_ onward is-directory
+  leg-at g r q e = go (eqb kind 0) refl (eqb kind a-directory) refl
+    where
+      kind : ℕ
+      kind = node-at nodes (g .node) .kind
+
+      sorted : only-directory nodes (r .stop) ≡ by-kind kind (Stopped-at (place-row q) (g .node))
+      sorted = rw e
+
+      refused-with : (n : ℕ) → second g ≡ refused n → (granted g >>= onward entries nodes follow-last k rest) ≡ refused n
+      refused-with n f = ap (prefixed (g .elements)) f ∙ prefixed-refused (g .elements) n
+
+      go : (none-there : Bool) → eqb kind 0 ≡ none-there → (its-directory : Bool) → eqb kind a-directory ≡ its-directory → Leg (granted g) r
+      go true z d f =
+          stopped 8 (refused-with 8 (enter-nothing entries nodes follow-last (k - length (g .elements)) (g .node) rest (eqb-true kind 0 z))) (sorted ∙ simp (z, by-kind))
+      go false z true f =
+          let same : only-directory nodes (r .stop) ≡ Stopped-at (place-row q) (g .node) = sorted ∙ simp (z, f, by-kind) in
+          goes-on g refl (ap is-refused same) (ap node-at-end e) f
+      go false z false f =
+          let other = enter-other entries nodes follow-last (k - length (g .elements)) (g .node) rest (eqb-false kind 0 z) (eqb-false kind a-directory f) in
+          stopped 9 (refused-with 9 other) (sorted ∙ simp (z, f, by-kind))
+
+  leg : (o : Outcome Goal) (r : Stretch) → Ends k o → r ≡ continued row t o → Leg o r
+  unfolding continued only-directory is-refused stop-of node-at-end Ends _>>=_
+  leg (refused n) r ends e = stopped n refl (ap (λ (w : Stretch). only-directory nodes (w .stop)) e)
+  leg (granted g) r ends e = go (g .end) refl
+    where
+      go : (q : Option Place) → g .end ≡ q → Leg (granted g) r
+      go none z =
+          let stop : r .stop ≡ Root = ap (λ (w : Stretch). w .stop) e ∙ rw z in
+          let top = ends .root z in
+          goes-on g refl (ap (λ (s : Stop). is-refused (only-directory nodes s)) stop) (ap node-at-end stop ∙ sym top) (rw top root)
+      go (some q) z = leg-at g r q (ap (λ (w : Stretch). w .stop) e ∙ rw z)
+
+  pub stopped-leg : (o : Outcome Goal) (r : Stretch) → Ends k o → r ≡ continued row t o → {n : ℕ} → only-directory nodes (r .stop) ≡ Refused n →
+      turned-away n ≡ continued row t (o >>= onward entries nodes follow-last k rest)
+  unfolding continued is-refused
+  stopped-leg o r ends e {n} s = go (leg o r ends e)
+    where
+      go : Leg o r → turned-away n ≡ continued row t (o >>= onward entries nodes follow-last k rest)
+      go (stopped m p q) = let same : n ≡ m = cc in rw (same, p)
+      go (goes-on g granted-with going node directory) = absurd (true≢false (sym (ap is-refused s) ∙ going))
+
+  -- what the code has of a leg behind which the walk goes on
+  pub record Next-leg (o : Outcome Goal) (r : Stretch) : Type 0 where
+    pub directory : is-directory nodes (node-at-end (r .stop)) ≡ true
+    pub more : t .count ≤ r .count
+    pub few : r .count ≤ 8
+    pub same : continued row (onward-from r) (walk-within entries nodes follow-last (8 - r .count) (node-at-end (r .stop)) rest)
+        ≡ continued row t (o >>= onward entries nodes follow-last k rest)
+
+  pub next-leg : t .count ≤ 8 → (o : Outcome Goal) (r : Stretch) → Ends k o → r ≡ continued row t o → is-refused (only-directory nodes (r .stop)) ≡ false → Next-leg o r
+  unfolding continued is-refused Ends _>>=_ onward onward-from trail-after
+  next-leg room o r ends e s = go (leg o r ends e)
+    where
+      go : Leg o r → Next-leg o r
+      go (stopped n p q) = absurd (true≢false (sym (ap is-refused q) ∙ s))
+      go (goes-on g granted-with going there directory) =
+          let whole : r ≡ continued row t (granted g) = e ∙ ap (continued row t) granted-with in
+          let count : r .count ≡ t .count + length (g .elements) = ap (λ (w : Stretch). w .count) whole in
+          let few : length (g .elements) ≤ k = subst (Ends k) granted-with ends .few in
+          let left : 8 - r .count ≡ k - length (g .elements) = omega arith in
+          let trail : onward-from r ≡ trail-after row t (g .node) (g .elements)
+          = λ i. record { directory = there i; count = whole i .count; rows = whole i .rows } in
+          record {
+            directory = subst (λ (n : ℕ). is-directory nodes n ≡ true) (sym there) directory;
+            more = omega arith;
+            few = omega arith;
+            same =
+                (λ i. continued row (trail i) (walk-within entries nodes follow-last (left i) (there i) rest))
+                ∙ ap (continued row (trail-after row t (g .node) (g .elements)))
+                (sym (enter-directory entries nodes follow-last (k - length (g .elements)) (g .node) rest directory))
+                ∙ continued-leg row t (g .node) (g .elements) (second g)
+                ∙ ap (λ (p : Outcome Goal). continued row t (p >>= onward entries nodes follow-last k rest)) (sym granted-with);
+          }
 
 -- A WHOLE WALK
-
-unfoldable pub no-links : Trail
-no-links = record { count = 0; elements = replicate 8 blank }
 
 drop-replicate : {A : Type 0} (n k m : ℕ) (x : A) → m ≡ n - k → drop k (replicate n x) ≡ replicate m x
 drop-replicate n zero m x e = let same : n ≡ m = omega arith in ap (λ (j : ℕ). replicate j x) same
 drop-replicate zero (suc k) m x e = let same : 0 ≡ m = omega arith in ap (λ (j : ℕ). replicate j x) same
 drop-replicate (suc n) (suc k) m x e = drop-replicate n k m x (omega arith)
 
-pub continued-whole : (o : Outcome Goal) → Ends 8 o → continued no-links o ≡ walked o
-unfolding continued walked room-of no-links Ends
-continued-whole (refused n) e = refl
-continued-whole (granted g) e =
-    let many : 0 + length (g .elements) ≡ length (g .elements) = omega arith in
-    let size = length-map (g .elements) place-row in
-    let short = e .few in
-    let room : sets (replicate 8 blank) 0 (map place-row (g .elements)) ≡ map place-row (g .elements) ++ replicate (8 - length (g .elements)) blank
-    = sets-eq (map place-row (g .elements)) (replicate 8 blank) 0 (omega arith)
-    ∙ ap (λ (l : List Place). map place-row (g .elements) ++ l) (drop-replicate 8 (0 + length (map place-row (g .elements))) (8 - length (g .elements)) blank (omega arith)) in
-    λ i. record { stop = stop-of (g .end) (g .node); count = many i; elements = room i }
+-- a list that stands at the front of room for eight
+pub front-of-room : {A : Type 0} (xs : List A) (blank : A) → length xs ≤ 8 → sets (replicate 8 blank) 0 xs ≡ xs ++ replicate (8 - length xs) blank
+front-of-room xs blank short =
+    sets-eq xs (replicate 8 blank) 0 (omega (arith, length-replicate 8 blank)) ∙ ap (λ l. xs ++ l) (drop-replicate 8 (0 + length xs) (8 - length xs) blank (omega arith))

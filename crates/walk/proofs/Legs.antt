@@ -14,7 +14,6 @@ use Rattle.model.specs.Paths.{Name, names}
 use Rattle.model.specs.Tables.{Place, Entry, Node, a-directory, node-at, is-directory}
 use Rattle.model.specs.Walk.{Goal, Found, nothing, file, directory, link, found, here, after-link, start, follow, turn, walk-names, walk-within}
 use Rattle.invariants.proofs.Walks.{found-directory}
-use Rattle.walk.specs.Trails.{jump-within, entered}
 use Rattle.walk.proofs.Found.{Walkable, start-directory, found-file}
 
 -- the links of a first leg, before all that came after it
@@ -23,23 +22,35 @@ prefixed [] o = o
 prefixed (q ∷ qs) o = after-link q (prefixed qs o)
 
 module _ (entries : List Entry) (nodes : List Node) where
+  -- the names that are left, from the node that was reached: it has to be there, and a directory
+  unfoldable pub entered : Bool → ℕ → ℕ → List Name → Outcome Goal
+  entered follow-last k n rest =
+      elim (eqb (node-at nodes n .kind) 0) [
+        | true ↦ refused 8
+        | false ↦
+            elim (eqb (node-at nodes n .kind) a-directory) [
+              | true ↦ walk-within entries nodes follow-last k n rest
+              | false ↦ refused 9
+            ]
+      ]
+
   -- the second leg: k links were left before the first
   unfoldable pub onward : Bool → ℕ → List Name → Goal → Outcome Goal
-  onward follow-last k rest g = prefixed (g .elements) (entered entries nodes follow-last (k - length (g .elements)) (g .node) rest)
+  onward follow-last k rest g = prefixed (g .elements) (entered follow-last (k - length (g .elements)) (g .node) rest)
 
   -- ENTERING A NODE, by its kind
 
-  pub enter-nothing : (follow-last : Bool) (k n : ℕ) (rest : List Name) → node-at nodes n .kind ≡ 0 → entered entries nodes follow-last k n rest ≡ refused 8
+  pub enter-nothing : (follow-last : Bool) (k n : ℕ) (rest : List Name) → node-at nodes n .kind ≡ 0 → entered follow-last k n rest ≡ refused 8
   unfolding entered
   enter-nothing follow-last k n rest e = simp (eq-eqb (node-at nodes n .kind) 0 e, entered)
 
   pub enter-other : (follow-last : Bool) (k n : ℕ) (rest : List Name) → (node-at nodes n .kind ≡ 0 → ⊥) → (node-at nodes n .kind ≡ a-directory → ⊥) →
-      entered entries nodes follow-last k n rest ≡ refused 9
+      entered follow-last k n rest ≡ refused 9
   unfolding entered
   enter-other follow-last k n rest f g = simp (ne-eqb (node-at nodes n .kind) 0 f, ne-eqb (node-at nodes n .kind) a-directory g, entered)
 
   pub enter-directory : (follow-last : Bool) (k n : ℕ) (rest : List Name) → is-directory nodes n ≡ true →
-      entered entries nodes follow-last k n rest ≡ walk-within entries nodes follow-last k n rest
+      entered follow-last k n rest ≡ walk-within entries nodes follow-last k n rest
   unfolding entered is-directory
   enter-directory follow-last k n rest e =
       let used : eqb (node-at nodes n .kind) 0 ≡ false = rw (eqb-true (node-at nodes n .kind) a-directory e) in
@@ -47,8 +58,13 @@ module _ (entries : List Entry) (nodes : List Node) where
 
   -- WALKS AND JUMPS
 
+  -- what follows a link where k links are left: one of them is spent, and where none is left the walk is refused
+  unfoldable pub jump-within : Bool → ℕ → ℕ → List Name → Outcome Goal
+  jump-within follow-last zero d rest = refused 7
+  jump-within follow-last (suc k) d rest = walk-within entries nodes follow-last k d rest
+
   pub within-names : (follow-last : Bool) (k d : ℕ) (ns : List Name) →
-      walk-within entries nodes follow-last k d ns ≡ walk-names entries nodes follow-last (jump-within entries nodes follow-last k) d ns
+      walk-within entries nodes follow-last k d ns ≡ walk-names entries nodes follow-last (jump-within follow-last k) d ns
   unfolding walk-within jump-within
   within-names follow-last zero d ns = refl
   within-names follow-last (suc k) d ns = refl
@@ -59,7 +75,7 @@ module _ (entries : List Entry) (nodes : List Node) where
   after-link-onward follow-last q k rest (refused n) = refl
   after-link-onward follow-last q k rest (granted g) =
       let e : k - length (g .elements) ≡ suc k - suc (length (g .elements)) = omega arith in
-      ap (λ (j : ℕ). after-link q (prefixed (g .elements) (entered entries nodes follow-last j (g .node) rest))) e
+      ap (λ (j : ℕ). after-link q (prefixed (g .elements) (entered follow-last j (g .node) rest))) e
 
   -- THE LAW
 
@@ -67,33 +83,34 @@ module _ (entries : List Entry) (nodes : List Node) where
   abbrev Jumps : ℕ → Type 0
   Jumps k =
       (follow-last : Bool) (q : Place) (s : ℕ) (ns : List Name) (m : Name) (rest : List Name) → is-directory nodes s ≡ true →
-      after-link q (jump-within entries nodes follow-last k s (ns ++ (m ∷ rest)))
-      ≡ (after-link q (jump-within entries nodes true k s ns) >>= onward follow-last k (m ∷ rest))
+      after-link q (jump-within follow-last k s (ns ++ (m ∷ rest)))
+      ≡ (after-link q (jump-within true k s ns) >>= onward follow-last k (m ∷ rest))
 
   module _ (walkable : Walkable entries nodes) (follow-last : Bool) (k : ℕ) (jumps : Jumps k) (m : Name) (rest : List Name) where
-    pub follow-legs : (q : Place) (target : List ℕ) (ns : List Name) → is-directory nodes (q .directory) ≡ true →
-        follow (jump-within entries nodes follow-last k) q target (ns ++ (m ∷ rest))
-        ≡ (follow (jump-within entries nodes true k) q target ns >>= onward follow-last k (m ∷ rest))
+    follow-legs : (q : Place) (target : List ℕ) (ns : List Name) → is-directory nodes (q .directory) ≡ true →
+        follow (jump-within follow-last k) q target (ns ++ (m ∷ rest))
+        ≡ (follow (jump-within true k) q target ns >>= onward follow-last k (m ∷ rest))
     unfolding follow
     follow-legs q target ns d =
-        ap (λ (l : List Name). after-link q (jump-within entries nodes follow-last k (start (q .directory) target) l)) (sym (append-assoc (names target) ns (m ∷ rest)))
+        ap (λ (l : List Name). after-link q (jump-within follow-last k (start (q .directory) target) l)) (sym (append-assoc (names target) ns (m ∷ rest)))
         ∙ jumps follow-last q (start (q .directory) target) (names target ++ ns) m rest (start-directory nodes (q .directory) target (walkable .top) d)
 
     reached-directory : (n : ℕ) → is-directory nodes n ≡ true →
-        walk-names entries nodes follow-last (jump-within entries nodes follow-last k) n (m ∷ rest)
+        walk-names entries nodes follow-last (jump-within follow-last k) n (m ∷ rest)
         ≡ onward follow-last k (m ∷ rest) (record { end = none; node = n; elements = [] })
     unfolding onward prefixed
     reached-directory n d =
         let e : k ≡ k - 0 = omega arith in
         sym (within-names follow-last k n (m ∷ rest)) ∙ sym (enter-directory follow-last k n (m ∷ rest) d)
-        ∙ ap (λ (j : ℕ). entered entries nodes follow-last j n (m ∷ rest)) e
+        ∙ ap (λ (j : ℕ). entered follow-last j n (m ∷ rest)) e
 
     turn-legs : (q : Place) (f : Found) (ns : List Name) → found entries nodes q ≡ f → is-directory nodes (q .directory) ≡ true →
         ((n : ℕ) → is-directory nodes n ≡ true →
-        walk-names entries nodes follow-last (jump-within entries nodes follow-last k) n (ns ++ (m ∷ rest))
-        ≡ (walk-names entries nodes true (jump-within entries nodes true k) n ns >>= onward follow-last k (m ∷ rest))) →
-        turn (jump-within entries nodes follow-last k) (λ n. walk-names entries nodes follow-last (jump-within entries nodes follow-last k) n (ns ++ (m ∷ rest))) follow-last q f (ns ++ (m ∷ rest))
-        ≡ (turn (jump-within entries nodes true k) (λ n. walk-names entries nodes true (jump-within entries nodes true k) n ns) true q f ns >>= onward follow-last k (m ∷ rest))
+        walk-names entries nodes follow-last (jump-within follow-last k) n (ns ++ (m ∷ rest))
+        ≡ (walk-names entries nodes true (jump-within true k) n ns >>= onward follow-last k (m ∷ rest))) →
+        turn (jump-within follow-last k) (λ n. walk-names entries nodes follow-last (jump-within follow-last k) n (ns ++ (m ∷ rest))) follow-last q f
+        (ns ++ (m ∷ rest))
+        ≡ (turn (jump-within true k) (λ n. walk-names entries nodes true (jump-within true k) n ns) true q f ns >>= onward follow-last k (m ∷ rest))
     unfolding turn _>>=_ here onward prefixed entered node-at
     turn-legs q nothing [] e d h = refl
     turn-legs q nothing (n ∷ ns) e d h = refl
@@ -107,19 +124,27 @@ module _ (entries : List Entry) (nodes : List Node) where
     turn-legs q (link x target) (n ∷ ns) e d h = follow-legs q target (n ∷ ns) d
 
     names-legs : (d : ℕ) (ns : List Name) → is-directory nodes d ≡ true →
-        walk-names entries nodes follow-last (jump-within entries nodes follow-last k) d (ns ++ (m ∷ rest))
-        ≡ (walk-names entries nodes true (jump-within entries nodes true k) d ns >>= onward follow-last k (m ∷ rest))
+        walk-names entries nodes follow-last (jump-within follow-last k) d (ns ++ (m ∷ rest))
+        ≡ (walk-names entries nodes true (jump-within true k) d ns >>= onward follow-last k (m ∷ rest))
     unfolding walk-names _>>=_
     names-legs d [] e = reached-directory d e
     names-legs d (n ∷ ns) e =
         let q : Place = record { directory = d; name = n } in
         turn-legs q (found entries nodes q) ns refl e (λ x f. names-legs x ns f)
 
-  pub jump-legs : Walkable entries nodes → (k : ℕ) → Jumps k
+    within-legs : (d : ℕ) (ns : List Name) → is-directory nodes d ≡ true →
+        walk-within entries nodes follow-last k d (ns ++ (m ∷ rest)) ≡ (walk-within entries nodes true k d ns >>= onward follow-last k (m ∷ rest))
+    within-legs d ns e =
+        within-names follow-last k d (ns ++ (m ∷ rest)) ∙ names-legs d ns e
+        ∙ ap (λ (o : Outcome Goal). o >>= onward follow-last k (m ∷ rest)) (sym (within-names true k d ns))
+
+  jump-legs : Walkable entries nodes → (k : ℕ) → Jumps k
   unfolding jump-within after-link _>>=_
   jump-legs walkable zero follow-last q s ns m rest e = refl
   jump-legs walkable (suc k) follow-last q s ns m rest e =
-      ap (after-link q)
-      (within-names follow-last k s (ns ++ (m ∷ rest)) ∙ names-legs walkable follow-last k (jump-legs walkable k) m rest s ns e
-      ∙ ap (λ (o : Outcome Goal). o >>= onward follow-last k (m ∷ rest)) (sym (within-names true k s ns)))
+      ap (after-link q) (within-legs walkable follow-last k (jump-legs walkable k) m rest s ns e)
       ∙ after-link-onward follow-last q k (m ∷ rest) (walk-within entries nodes true k s ns)
+
+  pub walk-legs : Walkable entries nodes → (follow-last : Bool) (k d : ℕ) (ns : List Name) (m : Name) (rest : List Name) → is-directory nodes d ≡ true →
+      walk-within entries nodes follow-last k d (ns ++ (m ∷ rest)) ≡ (walk-within entries nodes true k d ns >>= onward follow-last k (m ∷ rest))
+  walk-legs walkable follow-last k d ns m rest e = within-legs walkable follow-last k (jump-legs walkable k) m rest d ns e

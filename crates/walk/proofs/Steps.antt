@@ -1,19 +1,19 @@
 -- The steps of the code, as facts about the values it holds: the name that was met, the link that is followed, and what each return is.
 -- Assumes nothing.
 use mathlib.Core.Path.{_≡_, refl, sym, ap, subst, _∙_}
-use mathlib.Core.Bool.{Bool, true, false}
-use mathlib.Core.Logic.{_≢_, _⊎_, inl, inr, ⊎-elim}
+use mathlib.Core.Bool.{Bool, true, false, true≢false}
+use mathlib.Core.Logic.{_≢_, _⊎_}
 use mathlib.Core.List.{List, [], _∷_}
 use Prim.Native.Nat.{ℕ, zero, suc, _+_, _-_, _≤_, _<_}
 use native.Mathlib.Omega.{arith}
-use lib.Dec.{eqb, leb}
+use lib.Dec.{eqb, leb, ltb}
 use lib.ListN.{length, getD, take, drop}
-use borrow.Author.Tests.{leb-true, leb-false}
+use borrow.Author.Tests.{eqb-true, eqb-false, leb-true, leb-false, ltb-true, ltb-false, le-ltb, lt-ltb}
 use Rattle.model.specs.Lists.{all, filled}
-use Rattle.model.specs.Refusals.{Outcome, refused, _>>=_}
+use Rattle.model.specs.Refusals.{Outcome, _>>=_}
 use Rattle.model.specs.Paths.{Name, slash, names, absolute, valid-name}
 use Rattle.model.specs.Tables as model-tables
-use Rattle.model.specs.Tables.{Node, a-link, free-node, node-at, lookup}
+use Rattle.model.specs.Tables.{Node, a-link, free-node, node-at, is-directory, lookup}
 use Rattle.model.specs.Words.{unpack}
 use Rattle.model.specs.Walk.{Goal, start, follow, walk-within}
 use Rattle.laws.proofs.Bools.{clash}
@@ -29,23 +29,23 @@ use Rattle.rows.proofs.Blocks.{name-back, block-named}
 use Rattle.rows.proofs.Fields.{node-in-row}
 use Rattle.rows.proofs.Parts.{nodes-full}
 use Rattle.goals.specs.declared.Place.{Place}
-use Rattle.goals.specs.declared.Stop.the-variants.{Entry}
-use Rattle.goals.specs.declared.Walk.{Walk}
-use Rattle.goals.specs.Goals.{place-row, place-at, walked, node-at-end}
+use Rattle.goals.specs.declared.Stop.the-variants.{Refused, Root, Entry}
+use Rattle.goals.specs.Goals.{place-row}
 use Rattle.paths.specs.declared.Next.the-variants.{Name as Named-next}
 use Rattle.paths.specs.Split.{next}
 use Rattle.paths.proofs.Names.{name-longer}
 use Rattle.paths.proofs.Parts.{parts-split}
 use Rattle.paths.proofs.Splits.{Splits-valid, next-splits, next-splits-valid}
-use Rattle.walk.specs.declared.Onward.{Onward}
-use Rattle.walk.specs.declared.Step.{Step}
+use Rattle.index.specs.Indexed.{row-found, node-in}
+use Rattle.index.proofs.Entries.{node-found-there}
+use Rattle.walk.specs.declared.Stretch.{Stretch}
 use Rattle.walk.specs.declared.Trail.{Trail}
-use Rattle.walk.specs.Trails.{continued, with-element, is-refused, jump-within, entered, Directory, Met}
-use Rattle.walk.proofs.Found.{Walkable, Good-target, good-target}
-use Rattle.walk.proofs.Legs.{onward}
-use Rattle.walk.proofs.Ends.{Ends}
-use Rattle.walk.proofs.Continues.{continued-link, refused-leg, Reached, reached, next-leg}
-use Rattle.walk.proofs.Answers.{stops-there, follows-last, goes-on, follows-on, link-ends-there, stopped-at, ninth-link, one-link}
+use Rattle.walk.specs.Trails.{turned-away, continued, through, onward-from, followed, only-directory, walked-from, link-walked, Ready}
+use Rattle.walk.proofs.Found.{Walkable, Good-target, good-target, start-directory, sound-walkable}
+use Rattle.walk.proofs.Legs.{jump-within, onward, walk-legs}
+use Rattle.walk.proofs.Ends.{Ends, walk-ends}
+use Rattle.walk.proofs.Continues.{is-refused, continued-link, stopped-leg, next-leg}
+use Rattle.walk.proofs.Answers.{stops-there, follows-link, stopped-at, stopped-by-slash, ninth-link, one-link}
 
 -- A NAME IS MET
 
@@ -122,83 +122,155 @@ module _ (path : List ℕ) (at start size : ℕ) (n : Next-name path at start si
       let some-part = sym (n .split .more end ∙ parts-split (drop (start + size + 1) path)) ∙ none-left in
       let z : _≡_ {A = ℕ} 0 1 = cc in omega arith
 
-module _ (w : List ℕ) (walkable : Walkable (unpack w .entries) (unpack w .nodes)) (s : Step) (met : Met w s) (t : Trail) where
-  abbrev entries : List model-tables.Entry
-  entries = unpack w .entries
+-- ONE NAME IS RESOLVED
 
-  abbrev nodes : List Node
-  nodes = unpack w .nodes
+-- the directory is a node
+pub in-no-directory : {w heads next : List ℕ} {t : Trail} → Ready w heads next t → t .directory ≢ 0
+unfolding is-directory node-at
+in-no-directory {w} ready z = let no : is-directory (unpack w .nodes) 0 ≡ true = rw z at (ready .there) in true≢false (sym no)
 
+-- the node of the row that was found is the one that the name leads to
+pub node-met : {w heads next : List ℕ} {t : Trail} → Ready w heads next t → (b : Block) {found node : ℕ} → found ≡ row-found w (place-of (t .directory) b) →
+    node ≡ node-in w found → node ≡ lookup (unpack w .entries) (place-of (t .directory) b)
+unfolding place-of
+node-met {w} {t = t} ready b e f = f ∙ rw e (node-found-there w (place-of (t .directory) b) (in-no-directory ready) (ready .indexed .distinct))
+
+-- a link followed alone, by the row of its entry and by its place
+link-alone : (w : List ℕ) (t : Trail) (b : Block) (target : List ℕ) →
+    link-walked w t (row-found w (place-of (t .directory) b)) target
+    ≡ continued (row-found w) t (follow (jump-within (unpack w .entries) (unpack w .nodes) true (8 - t .count)) (place-of (t .directory) b) target [])
+unfolding link-walked walked-from continued place-of
+link-alone w t b target = go (ltb (t .count) 8) refl
+  where
+    place : model-tables.Place
+    place = place-of (t .directory) b
+
+    alone : Outcome Goal
+    alone = follow (jump-within (unpack w .entries) (unpack w .nodes) true (8 - t .count)) place target []
+
+    inside : Outcome Goal
+    inside = walk-within (unpack w .entries) (unpack w .nodes) true (8 - (t .count + 1)) (start (t .directory) target) (names target)
+
+    go : (free : Bool) → ltb (t .count) 8 ≡ free → link-walked w t (row-found w place) target ≡ continued (row-found w) t alone
+    go true e =
+        let few = ltb-true (t .count) 8 e in
+        simp (e, link-walked) (continued-link (row-found w) t place (start (t .directory) target) inside
+        ∙ ap (continued (row-found w) t) (one-link (unpack w .entries) (unpack w .nodes) (8 - t .count) (8 - (t .count + 1)) place target (omega arith)))
+    go false e =
+        let full = ltb-false (t .count) 8 e in
+        simp (e, link-walked) (ap (continued (row-found w) t) (sym (ninth-link (unpack w .entries) (unpack w .nodes) (8 - t .count) place target (omega arith))))
+
+module _ (w : List ℕ) (walkable : Walkable (unpack w .entries) (unpack w .nodes)) (t : Trail) (b : Block) (node : ℕ)
+    (there : node ≡ lookup (unpack w .entries) (place-of (t .directory) b)) (follow-last : Bool) where
   abbrev place : model-tables.Place
-  place = place-at (s .place)
+  place = place-of (t .directory) b
 
-  abbrev left : ℕ
-  left = 8 - t .count
+  pub resolves-link : {found : ℕ} {r : Stretch} → found ≡ row-found w place → follow-last ≡ true → node-at (unpack w .nodes) node .kind ≡ a-link →
+      r ≡ link-walked w t found (node-at (unpack w .nodes) node .target) → r ≡ walked-from w follow-last t (name-of b ∷ [])
+  unfolding walked-from place-of
+  resolves-link same f kind e =
+      let link-there = ap (λ (n : ℕ). node-at (unpack w .nodes) n .kind) (sym there) ∙ kind in
+      e ∙ rw (same, there) (link-alone w t b (node-at (unpack w .nodes) (lookup (unpack w .entries) place) .target))
+      ∙ ap (continued (row-found w) t) (sym (follows-link (unpack w .entries) (unpack w .nodes) walkable follow-last (8 - t .count) place f link-there))
 
-  -- the walk from the name that was met
-  abbrev pub Left : List Name → Outcome Goal
-  Left rest = walk-within entries nodes (s .«follow_last») left (s .place .directory) (name-of (s .place .name) ∷ rest)
+  pub stops-at-entry : Named b → (node-at (unpack w .nodes) node .kind ≢ a-link) ⊎ (follow-last ≡ false) →
+      record { stop = Entry (record { directory = t .directory; name = b }) node; count = t .count; rows = t .rows } ≡ walked-from w follow-last t (name-of b ∷ [])
+  unfolding walked-from place-of
+  stops-at-entry named c =
+      let same = sym (place-there-and-back (t .directory) b named) in
+      let no-link : (node-at (unpack w .nodes) (lookup (unpack w .entries) place) .kind ≢ a-link) ⊎ (follow-last ≡ false) = rw there at c in
+      let alone = stops-there (unpack w .entries) (unpack w .nodes) walkable follow-last (8 - t .count) place no-link in
+      (λ i. record { stop = Entry (same i) (there i); count = t .count; rows = t .rows })
+      ∙ stopped-at (row-found w) t place (lookup (unpack w .entries) place) ∙ ap (continued (row-found w) t) (sym alone)
 
-  -- the link that was met, followed alone
-  abbrev pub Link : Outcome Goal
-  Link = follow (jump-within entries nodes true left) place (node-at nodes (s .node) .target) []
+-- NAMES ONE AFTER THE OTHER
 
-  kind-there : (k : ℕ) → node-at nodes (s .node) .kind ≡ k → node-at nodes (lookup entries place) .kind ≡ k
-  kind-there k e = ap (λ (n : ℕ). node-at nodes n .kind) (sym (met .node)) ∙ e
+-- Where the loop over names stands: what is left of the path, from the trail, comes to what the whole of it comes to.
+pub record Walking (w heads next path : List ℕ) (follow-last : Bool) (from : Trail) (at : ℕ) (trail : Trail) : Type 0 where
+  pub ready : Ready w heads next trail
+  pub valid : all valid-name (names (drop at path)) ≡ true
+  pub more : from .count ≤ trail .count
+  pub same : walked-from w follow-last trail (names (drop at path)) ≡ walked-from w follow-last from (names path)
 
-  no-link-there : node-at nodes (s .node) .kind ≢ a-link → node-at nodes (lookup entries place) .kind ≢ a-link
-  no-link-there no-link e = no-link (ap (λ (n : ℕ). node-at nodes n .kind) (met .node) ∙ e)
+-- What the loop knows where it has resolved a name alone.
+pub record Met (w path : List ℕ) (follow-last : Bool) (at : ℕ) (trail : Trail) (start size : ℕ) (met : Stretch) : Type 0 where
+  pub name : Next-name path at start size
+  pub block : Block
+  pub made : block ≡ block-of (take size (drop start path))
+  pub follow : Bool
+  pub asked : follow ≡ followed (eqb (start + size) (length path)) follow-last
+  pub is : met ≡ walked-from w follow trail (name-of block ∷ [])
 
-  same-link : follow (jump-within entries nodes true left) place (node-at nodes (lookup entries place) .target) [] ≡ Link
-  same-link = ap (λ (n : ℕ). follow (jump-within entries nodes true left) place (node-at nodes n .target) []) (sym (met .node))
+two-legs : (w : List ℕ) → Walkable (unpack w .entries) (unpack w .nodes) → (follow-last : Bool) (k d : ℕ) (n : Name) (rest : List Name) → rest ≢ [] →
+    is-directory (unpack w .nodes) d ≡ true →
+    walk-within (unpack w .entries) (unpack w .nodes) follow-last k d (n ∷ rest)
+    ≡ (walk-within (unpack w .entries) (unpack w .nodes) true k d (n ∷ []) >>= onward (unpack w .entries) (unpack w .nodes) follow-last k rest)
+two-legs w walkable follow-last k d n [] more e = absurd (more refl)
+two-legs w walkable follow-last k d n (m ∷ rest) more e = walk-legs (unpack w .entries) (unpack w .nodes) walkable follow-last k d (n ∷ []) m rest e
 
-  -- THE LAST NAME
+module _ {w heads next path : List ℕ} {follow-last : Bool} {from : Trail} {at : ℕ} {trail : Trail} (walking : Walking w heads next path follow-last from at trail) where
+  -- no name is left
+  pub stops-by-slash : names (drop at path) ≡ [] →
+      record { stop = Root; count = trail .count; rows = trail .rows } ≡ walked-from w follow-last from (names path)
+  unfolding walked-from
+  stops-by-slash none-left =
+      stopped-by-slash (row-found w) trail (unpack w .entries) (unpack w .nodes) follow-last (8 - trail .count) (trail .directory) (names (drop at path)) none-left
+      ∙ walking .same
 
-  pub follows-last-link : {r : Walk} → s .«follow_last» ≡ true → node-at nodes (s .node) .kind ≡ a-link → r ≡ continued t Link → r ≡ continued t (Left [])
-  unfolding place-at place-of
-  follows-last-link f kind e =
-      e ∙ ap (continued t) (sym (follows-last entries nodes walkable (s .«follow_last») left place [] refl f (kind-there a-link kind) ∙ same-link))
+  module _ {start size : ℕ} {met : Stretch} (m : Met w path follow-last at trail start size met) where
+    resolved : {last : Bool} → eqb (start + size) (length path) ≡ last → met ≡ walked-from w (followed last follow-last) trail (name-of (m .block) ∷ [])
+    resolved h =
+        m .is ∙ ap (λ (l : Bool). walked-from w l trail (name-of (m .block) ∷ [])) (m .asked ∙ ap (λ (l : Bool). followed l follow-last) h)
 
-  pub stops-at-entry : (node-at nodes (s .node) .kind ≢ a-link) ⊎ (s .«follow_last» ≡ false) →
-      record { stop = Entry (s .place) (s .node); count = t .count; elements = t .elements } ≡ continued t (Left [])
-  unfolding place-at place-of
-  stops-at-entry c =
-      let same = sym (place-there-and-back (s .place .directory) (s .place .name) (met .named)) in
-      (λ i. record { stop = Entry (same i) (met .node i); count = t .count; elements = t .elements })
-      ∙ stopped-at t place (lookup entries place)
-      ∙ ap (continued t) (sym (stops-there entries nodes walkable (s .«follow_last») left place [] refl (⊎-elim (λ h. inl (no-link-there h)) (λ h. inr h) c)))
+    -- it is the last name
+    pub last-resolved : eqb (start + size) (length path) ≡ true → met ≡ walked-from w follow-last from (names path)
+    unfolding followed
+    last-resolved end =
+        let only = last-of-names path at start size (m .name) (m .block) (m .made) (eqb-true (start + size) (length path) end) in
+        resolved end ∙ ap (walked-from w follow-last trail) (sym only) ∙ walking .same
 
-  -- A NAME WITH OTHERS BEHIND IT
+    -- others come behind it: it is a first leg
+    module _ (end : eqb (start + size) (length path) ≡ false) where
+      abbrev others : List Name
+      others = names (drop (start + size) path)
 
-  module _ (rest : List Name) (more : rest ≢ []) where
-    pub goes-on-there : {r : Walk} → node-at nodes (s .node) .kind ≢ a-link → r ≡ continued t (entered entries nodes (s .«follow_last») left (s .node) rest) →
-        r ≡ continued t (Left rest)
-    unfolding place-at place-of
-    goes-on-there kind e =
-        e ∙ ap (continued t)
-        (ap (λ (n : ℕ). entered entries nodes (s .«follow_last») left n rest) (met .node)
-        ∙ sym (goes-on entries nodes walkable (s .«follow_last») left place rest more (no-link-there kind)))
+      abbrev First : Outcome Goal
+      First = walk-within (unpack w .entries) (unpack w .nodes) true (8 - trail .count) (trail .directory) (name-of (m .block) ∷ [])
 
-    module _ (kind : node-at nodes (s .node) .kind ≡ a-link) (r : Walk) (e : r ≡ continued t Link) where
-      two-legs : Left rest ≡ (Link >>= onward entries nodes (s .«follow_last») left rest)
-      unfolding place-at place-of Directory
-      two-legs =
-          follows-on entries nodes walkable (s .«follow_last») left place rest more (met .directory) (kind-there a-link kind)
-          ∙ ap (λ (o : Outcome Goal). o >>= onward entries nodes (s .«follow_last») left rest) same-link
+      walkable : Walkable (unpack w .entries) (unpack w .nodes)
+      walkable = sound-walkable w (walking .ready .sound)
 
-      pub refused-on-the-way : is-refused (r .stop) ≡ true → r ≡ continued t (Left rest)
-      refused-on-the-way refusal = refused-leg t Link r e refusal (onward entries nodes (s .«follow_last») left rest) ∙ ap (continued t) (sym two-legs)
+      first-leg : met ≡ continued (row-found w) trail First
+      unfolding followed walked-from
+      first-leg = resolved end
 
-      pub leg-reached : is-refused (r .stop) ≡ false → Reached t left Link r
-      leg-reached no-refusal =
-          reached t left Link r
-          (subst (Ends left) same-link (link-ends-there entries nodes walkable (s .«follow_last») left place rest (kind-there a-link kind))) e no-refusal
+      ends : Ends (8 - trail .count) First
+      ends =
+          walk-ends (unpack w .entries) (unpack w .nodes) walkable true (8 - trail .count) (trail .directory) (name-of (m .block) ∷ [])
+          (λ z. let y : _≡_ {A = ℕ} 0 1 = cc in absurd (omega arith))
 
-      pub goes-on-behind : t .count ≤ 8 → is-refused (r .stop) ≡ false → {r′ : Walk} →
-          r′ ≡ continued (record { count = r .count; elements = r .elements }) (entered entries nodes (s .«follow_last») (8 - r .count) (node-at-end (r .stop)) rest) →
-          r′ ≡ continued t (Left rest)
-      goes-on-behind few no-refusal g =
-          g ∙ next-leg entries nodes (s .«follow_last») rest t Link r few (leg-reached no-refusal) ∙ ap (continued t) (sym two-legs)
+      both : continued (row-found w) trail (First >>= onward (unpack w .entries) (unpack w .nodes) follow-last (8 - trail .count) others)
+          ≡ walked-from w follow-last from (names path)
+      unfolding walked-from
+      both =
+          let more = more-names path at start size (m .name) (m .block) (m .made) (eqb-false (start + size) (length path) end) in
+          let legs = two-legs w walkable follow-last (8 - trail .count) (trail .directory) (name-of (m .block)) others more (walking .ready .there) in
+          ap (continued (row-found w) trail) (sym legs) ∙ ap (walked-from w follow-last trail) (sym (names-from path at start size (m .name) (m .block) (m .made)))
+          ∙ walking .same
+
+      pub stopped-on-the-way : {n : ℕ} → only-directory (unpack w .nodes) (met .stop) ≡ Refused n → turned-away n ≡ walked-from w follow-last from (names path)
+      stopped-on-the-way s = stopped-leg (row-found w) (unpack w .entries) (unpack w .nodes) (walkable .top) follow-last others trail First met ends first-leg s ∙ both
+
+      pub walks-on : is-refused (only-directory (unpack w .nodes) (met .stop)) ≡ false → Walking w heads next path follow-last from (start + size) (onward-from met)
+      unfolding walked-from onward-from
+      walks-on s =
+          let on = next-leg (row-found w) (unpack w .entries) (unpack w .nodes) (walkable .top) follow-last others trail (walking .ready .few) First met ends first-leg s in
+          record {
+            ready = record { sound = walking .ready .sound; indexed = walking .ready .indexed; there = on .directory; few = on .few };
+            valid = m .name .split .others-valid;
+            more = omega (arith, walking .more, on .more);
+            same = on .same ∙ both;
+          }
 
 -- A LINK IS FOLLOWED
 
@@ -244,40 +316,23 @@ pub started : (d : ℕ) (target : List ℕ) (first s : ℕ) → first ≡ getD t
 unfolding start absolute
 started d target first s e f = f ∙ ap (λ (c : ℕ). elim (eqb c slash) as (λ _. ℕ) [ true ↦ 1 | false ↦ d ]) e
 
-module _ (entries : List model-tables.Entry) (nodes : List Node) (place : Place) (target : List ℕ) (t : Trail) where
-  -- the link at the place, followed alone
-  abbrev pub Followed : Outcome Goal
-  Followed = follow (jump-within entries nodes true (8 - t .count)) (place-at place) target []
+module _ (w : List ℕ) (t : Trail) (found : ℕ) (target : List ℕ) where
+  pub no-link-left : 8 ≤ t .count → turned-away 7 ≡ link-walked w t found target
+  unfolding link-walked
+  no-link-left full = sym (simp (le-ltb (t .count) 8 full, link-walked))
 
-  pub no-link-left : 8 ≤ t .count → walked (refused 7) ≡ continued t Followed
-  unfolding continued
-  no-link-left full = ap (continued t) (sym (ninth-link entries nodes (8 - t .count) (place-at place) target (omega arith)))
+  -- from what the code computed for it
+  pub follows-target : t .count < 8 → {u : Trail} {s : ℕ} {bytes : List ℕ} {r : Stretch} → u ≡ through t found s → s ≡ start (t .directory) target → bytes ≡ target →
+      r ≡ walked-from w true u (names bytes) → r ≡ link-walked w t found target
+  unfolding link-walked
+  follows-target free e f g h = h ∙ rw (e, f, g) (sym (simp (lt-ltb (t .count) 8 free, link-walked)))
 
-  pub follows-target : Named (place .name) → t .count < 8 → {r : Walk} →
-      r ≡ continued (with-element t place) (walk-within entries nodes true (8 - (t .count + 1)) (start (place .directory) target) (names target)) →
-      r ≡ continued t Followed
-  unfolding place-at place-of
-  follows-target named free e =
-      e ∙ ap (λ (p : Place). continued (with-element t p) (walk-within entries nodes true (8 - (t .count + 1)) (start (place .directory) target) (names target)))
-      (sym (place-there-and-back (place .directory) (place .name) named))
-      ∙ continued-link t (place-at place) (walk-within entries nodes true (8 - (t .count + 1)) (start (place .directory) target) (names target))
-      ∙ ap (continued t) (one-link entries nodes (8 - t .count) (8 - (t .count + 1)) (place-at place) target (omega arith))
-
--- the same walk, from what the code computed for it
-pub target-walk : (entries : List model-tables.Entry) (nodes : List Node) (s d : ℕ) {u v : Trail} {bytes target : List ℕ} → u ≡ v → s ≡ d → bytes ≡ target →
-    continued u (walk-within entries nodes true (8 - u .count) s (names bytes)) ≡ continued v (walk-within entries nodes true (8 - v .count) d (names target))
-target-walk entries nodes s d e f g = λ i. continued (e i) (walk-within entries nodes true (8 - e i .count) (f i) (names (g i)))
-
-pub entered-from : (w path : List ℕ) {u v : Trail} {o p : Onward} → u ≡ v → o ≡ p →
-    continued u (entered (unpack w .entries) (unpack w .nodes) (o .«follow_last») (8 - u .count) (o .node) (names (drop (o .at) path)))
-    ≡ continued v (entered (unpack w .entries) (unpack w .nodes) (p .«follow_last») (8 - v .count) (p .node) (names (drop (p .at) path)))
-entered-from w path e f =
-    λ i. continued (e i) (entered (unpack w .entries) (unpack w .nodes) (f i .«follow_last») (8 - e i .count) (f i .node) (names (drop (f i .at) path)))
-
-pub onward-at : {o : Onward} {at m n : ℕ} {follow-last : Bool} → o ≡ record { at = at; node = m; «follow_last» = follow-last } → m ≡ n →
-    o ≡ record { at = at; node = n; «follow_last» = follow-last }
-onward-at {at = at} {follow-last = follow-last} e f = e ∙ (λ i. record { at = at; node = f i; «follow_last» = follow-last })
-
--- the walk of some names from where the code stands
-unfoldable pub continued-names : List ℕ → Onward → Trail → List Name → Walk
-continued-names w o t ns = continued t (walk-within (unpack w .entries) (unpack w .nodes) (o .«follow_last») (8 - t .count) (o .node) ns)
+  -- the trail is fit for the target's names
+  pub ready-inside : {heads next : List ℕ} {s : ℕ} → s ≡ start (t .directory) target → Ready w heads next t → t .count < 8 → Ready w heads next (through t found s)
+  ready-inside e ready free =
+      record {
+        sound = ready .sound;
+        indexed = ready .indexed;
+        there = rw e (start-directory (unpack w .nodes) (t .directory) target (sound-walkable w (ready .sound) .top) (ready .there));
+        few = omega arith;
+      }

@@ -1,28 +1,33 @@
 // A path walked over the lent tables: names looked up one after the other, links followed on the way. Document 01, 'Walking a path'.
-// The functions call each other in a cycle, which ends: the links left fall, or the bytes left do.
+// Walking names calls following a link, which walks the names of its target. Names go by a loop, in which the bytes left fall; a call comes
+// with each link alone, and the links left fall, so that the stack is that of nine walks of names at the most. On the way a link is known by
+// the row of its entry, in two bytes; its place is read where the walk is over.
 ghost use mathlib.Core.Path.{_≡_};
 ghost use mathlib.Core.Bool.{true, false};
-ghost use mathlib.Core.List.{[], _∷_};
-ghost use mathlib.Core.Logic.{_≢_};
-ghost use Prim.Native.Nat.{_-_, _<_};
+ghost use mathlib.Core.List.{[], _∷_, map};
+ghost use Prim.Native.Nat.{_<_};
 ghost use lib.Dec.{eqb};
-ghost use lib.ListN.{replicate, drop};
-ghost use Rattle.model.specs.Paths.{names, slash, valid-path};
+ghost use lib.ListN.{replicate, take};
+ghost use lib.Seq.{sets};
+ghost use Rattle.model.specs.Lists.{all};
+ghost use Rattle.model.specs.Paths.{names, slash, valid-name, valid-path};
 ghost use Rattle.model.specs.Tables.{a-link, node-at};
 ghost use Rattle.model.specs.Words.{unpack};
 ghost use Rattle.model.specs.Refusals.{refused};
 ghost use Rattle.model.specs.Sound.{sound-rows};
-ghost use Rattle.model.specs.Walk.{follow, walk-within, walk};
+ghost use Rattle.model.specs.Walk.{walk};
 ghost use Rattle.rows.specs.Blocks.{Named, name-of};
+ghost use Rattle.rows.specs.Stands.{Stands};
 ghost use Rattle.index.specs.Indexed.{Indexed};
-ghost use Rattle.goals.specs.Goals.{blank, place-at, walked};
-ghost use Rattle.walk.specs.Trails.{continued, with-element, is-refused, jump-within, entered, Ready, Names-left, Directory, Met};
+ghost use Rattle.goals.specs.Goals.{blank, walked};
+ghost use Rattle.walk.specs.Trails.{turned-away, through, onward-from, followed, only-directory, walked-from, link-walked, place-in, Row, Rows-kept, Ready};
 use goals::Place;
 use goals::Stop;
 use goals::Walk;
-use goals::node_of;
+use goals::node_at_end;
 use index::BUCKETS;
-use index::lookup;
+use index::find_entry;
+use index::node_found;
 use model::NAME_IS_FILE;
 use model::NAME_MISSING;
 use model::NINTH_LINK;
@@ -34,6 +39,8 @@ use rows::ENTRY_ROWS;
 use rows::LINK;
 use rows::ROOT;
 use rows::block_from;
+use rows::entry_directory;
+use rows::entry_name;
 use rows::node_kind;
 use rows::target_in;
 
@@ -41,25 +48,19 @@ const LINKS: usize = 8;
 
 const SLASH: u8 = b'/';
 
-// The places of the links followed so far, in the order met. Unused room is blank.
+// How far a walk has come: the directory that it stands in, and the links followed so far, in the order met, each by one more than the row of
+// its entry. Unused room is 0.
 struct Trail {
+    directory: u16,
     count: usize,
-    elements: [Place; 8],
+    rows: [u16; 8],
 }
 
-// Where a walk goes on: the byte of the path, the node, and whether a link at the last name is followed.
-struct Onward {
-    at: usize,
-    node: u16,
-    follow_last: bool,
-}
-
-// A name that a walk met: its place, the node there, the byte behind it, and whether a link at the last name is followed.
-struct Step {
-    place: Place,
-    node: u16,
-    at: usize,
-    follow_last: bool,
+// A stretch of a walk: how the walk of some names ended, and the links followed up to there.
+struct Stretch {
+    stop: Stop,
+    count: usize,
+    rows: [u16; 8],
 }
 
 // The walk of a valid path over sound tables, with the index of their entries.
@@ -75,68 +76,89 @@ pub fn walk(
     requires valid { ⌜ valid-path (now path) ≡ true ⌝ }
     ensures { λ r. ⌜ r ≡ walked (walk (unpack (now (words .entry)) .entries) (unpack (now (words .entry)) .nodes) «follow_last» (now (path .entry))) ⌝ }
 {
-    let from = Onward {
-        at: 0,
-        node: ROOT,
-        follow_last: follow_last,
+    let from = Trail {
+        directory: ROOT,
+        count: 0,
+        rows: [0; 8],
     };
-    walk_names(words, heads, next, path, from, no_links())
+    let whole = walk_names(words, heads, next, path, follow_last, from);
+    let stop = whole.stop;
+    let rows = whole.rows;
+    let elements = places_in(words, rows, whole.count);
+    Walk {
+        stop: stop,
+        count: whole.count,
+        elements: elements,
+    }
 }
 
+// The names of a path or a target, behind the links followed before.
 fn walk_names(
     words: &[u32],
     heads: &[u16; BUCKETS],
     next: &[u16; ENTRY_ROWS],
     path: &[u8],
-    from: Onward,
-    trail: Trail,
-) -> Walk
-    requires ready { ⌜ Ready (now words) (now heads) (now next) trail ⌝ }
-    requires directory { ⌜ Directory (now words) (from .node) ⌝ }
-    requires valid { ⌜ Names-left (now path) (from .at) ⌝ }
-    ensures { λ r. ⌜ r ≡ continued trail (walk-within (unpack (now (words .entry)) .entries) (unpack (now (words .entry)) .nodes) (from .«follow_last») (8 - trail .count) (from .node) (names (drop (from .at) (now (path .entry))))) ⌝ }
+    follow_last: bool,
+    from: Trail,
+) -> Stretch
+    requires ready { ⌜ Ready (now words) (now heads) (now next) from ⌝ }
+    requires valid { ⌜ all valid-name (names (now path)) ≡ true ⌝ }
+    ensures { λ r. ⌜ r ≡ walked-from (now (words .entry)) «follow_last» from (names (now (path .entry))) ⌝ }
 {
-    let at = from.at;
-    let directory = from.node;
-    let Next::Name { start, length } = next_name(path, at) else {
-        return stop_at(Stop::Root, trail);
-    };
-    let end = start + length;
-    let name = block_from(path, start, length);
-    let step = Step {
-        place: Place {
-            directory: directory,
-            name: name,
-        },
-        node: lookup(words, heads, next, directory, name),
-        at: end,
-        follow_last: from.follow_last,
-    };
-    if end == path.len() {
-        return last_name(words, heads, next, step, trail);
+    let mut at = 0;
+    let mut trail = from;
+    loop {
+        let Next::Name { start, length } = next_name(path, at) else {
+            return stop_at(Stop::Root, trail);
+        };
+        let name = block_from(path, start, length);
+        let end = start + length;
+        let is_last = end == path.len();
+        let follow = is_followed(is_last, follow_last);
+        let met = resolve(words, heads, next, name, follow, trail);
+        if is_last {
+            return met;
+        }
+        let stop = met.stop;
+        if let Stop::Refused(number) = only_directory(words, stop) {
+            return turn_away(number);
+        }
+        at = end;
+        trail = trail_of(met);
     }
-    middle_name(words, heads, next, path, step, trail)
 }
 
-// The walk stops at the entry that it met, or follows the link there where it may.
-fn last_name(
+// A link is followed where names come behind it, and at the last name where the call does so.
+fn is_followed(is_last: bool, follow_last: bool) -> bool
+    ensures { λ r. ⌜ r ≡ followed «is_last» «follow_last» ⌝ }
+{
+    if is_last { follow_last } else { true }
+}
+
+// One name: a link there is followed where it may be, and else the walk stops at the entry.
+fn resolve(
     words: &[u32],
     heads: &[u16; BUCKETS],
     next: &[u16; ENTRY_ROWS],
-    step: Step,
+    name: Block,
+    follow: bool,
     trail: Trail,
-) -> Walk
+) -> Stretch
     requires ready { ⌜ Ready (now words) (now heads) (now next) trail ⌝ }
-    requires met { ⌜ Met (now words) step ⌝ }
-    ensures { λ r. ⌜ r ≡ continued trail (walk-within (unpack (now (words .entry)) .entries) (unpack (now (words .entry)) .nodes) (step .«follow_last») (8 - trail .count) (step .place .directory) (name-of (step .place .name) ∷ [])) ⌝ }
+    requires named { ⌜ Named name ⌝ }
+    ensures { λ r. ⌜ r ≡ walked-from (now (words .entry)) follow trail (name-of name ∷ []) ⌝ }
 {
-    let place = step.place;
-    let node = step.node;
-    if step.follow_last {
+    let found = find_entry(words, heads, next, trail.directory, name);
+    let node = node_found(words, found);
+    if follow {
         if node_kind(words, node) == LINK {
-            return follow_link(words, heads, next, node, place, trail);
+            return follow_link(words, heads, next, node, found, trail);
         }
     }
+    let place = Place {
+        directory: trail.directory,
+        name: name,
+    };
     stop_at(
         Stop::Entry {
             place: place,
@@ -146,108 +168,53 @@ fn last_name(
     )
 }
 
-// More names come: the walk goes on from the node that it met, or from where the link there leads.
-fn middle_name(
-    words: &[u32],
-    heads: &[u16; BUCKETS],
-    next: &[u16; ENTRY_ROWS],
-    path: &[u8],
-    step: Step,
-    trail: Trail,
-) -> Walk
-    requires ready { ⌜ Ready (now words) (now heads) (now next) trail ⌝ }
-    requires met { ⌜ Met (now words) step ⌝ }
-    requires valid { ⌜ Names-left (now path) (step .at) ⌝ }
-    requires more { ⌜ names (drop (step .at) (now path)) ≢ [] ⌝ }
-    ensures { λ r. ⌜ r ≡ continued trail (walk-within (unpack (now (words .entry)) .entries) (unpack (now (words .entry)) .nodes) (step .«follow_last») (8 - trail .count) (step .place .directory) (name-of (step .place .name) ∷ names (drop (step .at) (now (path .entry))))) ⌝ }
-{
-    let node = step.node;
-    if node_kind(words, node) != LINK {
-        return enter(words, heads, next, path, onward_from(step, node), trail);
-    }
-    let place = step.place;
-    let reached = follow_link(words, heads, next, node, place, trail);
-    let stop = reached.stop;
-    if is_refused(stop) {
-        return reached;
-    }
-    enter(
-        words,
-        heads,
-        next,
-        path,
-        onward_from(step, node_of(reached)),
-        trail_of(reached),
-    )
-}
-
-// Goes on from the node that was reached, with the names that are left.
-fn enter(
-    words: &[u32],
-    heads: &[u16; BUCKETS],
-    next: &[u16; ENTRY_ROWS],
-    path: &[u8],
-    from: Onward,
-    trail: Trail,
-) -> Walk
-    requires ready { ⌜ Ready (now words) (now heads) (now next) trail ⌝ }
-    requires valid { ⌜ Names-left (now path) (from .at) ⌝ }
-    ensures { λ r. ⌜ r ≡ continued trail (entered (unpack (now (words .entry)) .entries) (unpack (now (words .entry)) .nodes) (from .«follow_last») (8 - trail .count) (from .node) (names (drop (from .at) (now (path .entry))))) ⌝ }
-{
-    let kind = node_kind(words, from.node);
-    if kind == 0 {
-        return refuse(NAME_MISSING);
-    }
-    if kind == DIRECTORY {
-        return walk_names(words, heads, next, path, from, trail);
-    }
-    refuse(NAME_IS_FILE)
-}
-
-// Walks the target of the link that stands at a place, its last name too.
+// Walks the target of the link that was found there, its last name too.
 fn follow_link(
     words: &[u32],
     heads: &[u16; BUCKETS],
     next: &[u16; ENTRY_ROWS],
     node: u16,
-    place: Place,
+    found: usize,
     trail: Trail,
-) -> Walk
+) -> Stretch
     requires ready { ⌜ Ready (now words) (now heads) (now next) trail ⌝ }
-    requires directory { ⌜ Directory (now words) (place .directory) ⌝ }
-    requires named { ⌜ Named (place .name) ⌝ }
+    requires row { ⌜ Row found ⌝ }
     requires link { ⌜ node-at (unpack (now words) .nodes) node .kind ≡ a-link ⌝ }
-    ensures { λ r. ⌜ r ≡ continued trail (follow (jump-within (unpack (now (words .entry)) .entries) (unpack (now (words .entry)) .nodes) true (8 - trail .count)) (place-at place) (node-at (unpack (now (words .entry)) .nodes) node .target) []) ⌝ }
+    ensures { λ r. ⌜ r ≡ link-walked (now (words .entry)) trail found (node-at (unpack (now (words .entry)) .nodes) node .target) ⌝ }
 {
     if trail.count >= LINKS {
-        return refuse(NINTH_LINK);
+        return turn_away(NINTH_LINK);
     }
     let target = target_in(words, node as usize - 1);
     let length = target.length;
     let bytes = target.bytes;
-    let from = Onward {
-        at: 0,
-        node: start_of(bytes[0], place.directory),
-        follow_last: true,
-    };
+    let start = start_of(bytes[0], trail.directory);
     walk_names(
         words,
         heads,
         next,
         &bytes[..length],
-        from,
-        add_element(trail, place),
+        true,
+        through_link(trail, found as u16, start),
     )
 }
 
-fn onward_from(step: Step, node: u16) -> Onward
-    ensures { λ r. ⌜ r ≡ record { at = step .at; node = node; «follow_last» = step .«follow_last» } ⌝ }
+// Where a walk that has to go on stopped: something has to be there, and that a directory. Node 1 is one.
+fn only_directory(words: &[u32], stop: Stop) -> Stop
+    requires { ⌜ Stands (now words) ⌝ }
+    ensures { λ r. ⌜ r ≡ only-directory (unpack (now (words .entry)) .nodes) stop ⌝ }
 {
-    Onward {
-        at: step.at,
-        node: node,
-        follow_last: step.follow_last,
+    let Stop::Entry { place: _, node } = stop else {
+        return stop;
+    };
+    let kind = node_kind(words, node);
+    if kind == 0 {
+        return Stop::Refused(NAME_MISSING);
     }
+    if kind == DIRECTORY {
+        return stop;
+    }
+    Stop::Refused(NAME_IS_FILE)
 }
 
 // A target is walked from node 1 where it begins with a slash, else from the link's directory.
@@ -257,8 +224,85 @@ fn start_of(first: u8, directory: u16) -> u16
     if first == SLASH { ROOT } else { directory }
 }
 
-fn no_links() -> Trail
-    ensures { λ r. ⌜ r ≡ record { count = 0; elements = replicate 8 blank } ⌝ }
+// One more link was followed, and the walk stands where its target starts.
+fn through_link(trail: Trail, found: u16, start: u16) -> Trail
+    requires { ⌜ trail .count < 8 ⌝ }
+    ensures { λ r. ⌜ r ≡ through trail found start ⌝ }
+{
+    let count = trail.count;
+    let mut onward = trail;
+    onward.rows[count] = found;
+    onward.count = count + 1;
+    onward.directory = start;
+    onward
+}
+
+// A walk that goes on from the directory where it stopped.
+fn trail_of(met: Stretch) -> Trail
+    ensures { λ r. ⌜ r ≡ onward-from met ⌝ }
+{
+    let stop = met.stop;
+    let rows = met.rows;
+    Trail {
+        directory: node_at_end(stop),
+        count: met.count,
+        rows: rows,
+    }
+}
+
+fn stop_at(stop: Stop, trail: Trail) -> Stretch
+    ensures { λ r. ⌜ r ≡ record { stop = stop; count = trail .count; rows = trail .rows } ⌝ }
+{
+    let rows = trail.rows;
+    Stretch {
+        stop: stop,
+        count: trail.count,
+        rows: rows,
+    }
+}
+
+// Names that are refused led nowhere.
+fn turn_away(number: u8) -> Stretch
+    ensures { λ r. ⌜ r ≡ turned-away number ⌝ }
+{
+    Stretch {
+        stop: Stop::Refused(number),
+        count: 0,
+        rows: [0; 8],
+    }
+}
+
+// The places of the first so many of these rows. The room behind them is blank.
+fn places_in(words: &[u32], rows: [u16; 8], count: usize) -> [Place; 8]
+    requires { ⌜ (Stands (now words)) × (Rows-kept count rows) ⌝ }
+    ensures { λ r. ⌜ r ≡ sets (replicate 8 blank) 0 (map (place-in (now (words .entry))) (take count rows)) ⌝ }
+{
+    let mut places = [blank(); 8];
+    let mut at = 0;
+    while at < count {
+        places[at] = place_in(words, rows[at]);
+        at += 1;
+    }
+    places
+}
+
+// The place of the entry of a row, told as `find_entry` tells rows.
+fn place_in(words: &[u32], found: u16) -> Place
+    requires { ⌜ (Stands (now words)) × (Row found) ⌝ }
+    ensures { λ r. ⌜ r ≡ place-in (now (words .entry)) found ⌝ }
+{
+    if found == 0 {
+        return blank();
+    }
+    let row = found as usize - 1;
+    Place {
+        directory: entry_directory(words, row),
+        name: entry_name(words, row),
+    }
+}
+
+fn blank() -> Place
+    ensures { λ r. ⌜ r ≡ blank ⌝ }
 {
     let name = Block {
         first: 0,
@@ -266,63 +310,19 @@ fn no_links() -> Trail
         third: 0,
         fourth: 0,
     };
-    Trail {
-        count: 0,
-        elements: [Place {
-            directory: 0,
-            name: name,
-        }; 8],
+    Place {
+        directory: 0,
+        name: name,
     }
 }
 
-fn add_element(trail: Trail, place: Place) -> Trail
-    requires { ⌜ trail .count < 8 ⌝ }
-    ensures { λ r. ⌜ r ≡ with-element trail place ⌝ }
-{
-    let count = trail.count;
-    let mut elements = trail.elements;
-    elements[count] = place;
-    Trail {
-        count: count + 1,
-        elements: elements,
-    }
-}
-
-// The links that a walk followed.
-fn trail_of(walk: Walk) -> Trail
-    ensures { λ r. ⌜ r ≡ record { count = walk .count; elements = walk .elements } ⌝ }
-{
-    let elements = walk.elements;
-    Trail {
-        count: walk.count,
-        elements: elements,
-    }
-}
-
-fn stop_at(stop: Stop, trail: Trail) -> Walk
-    ensures { λ r. ⌜ r ≡ record { stop = stop; count = trail .count; elements = trail .elements } ⌝ }
-{
-    let elements = trail.elements;
-    Walk {
-        stop: stop,
-        count: trail.count,
-        elements: elements,
-    }
-}
-
-// A walk that ends in a refusal has no elements.
+// A walk that is refused has no elements.
 pub fn refuse(number: u8) -> Walk
     ensures { λ r. ⌜ r ≡ walked (refused number) ⌝ }
 {
-    stop_at(Stop::Refused(number), no_links())
-}
-
-fn is_refused(stop: Stop) -> bool
-    ensures { λ r. ⌜ r ≡ is-refused stop ⌝ }
-{
-    match stop {
-        Stop::Refused(_) => true,
-        Stop::Root => false,
-        Stop::Entry { place: _, node: _ } => false,
+    Walk {
+        stop: Stop::Refused(number),
+        count: 0,
+        elements: [blank(); 8],
     }
 }

@@ -1,38 +1,15 @@
--- `goals::node_of` meets its contract: by where the walk stopped. Assumes nothing.
-use mathlib.Core.Path.{ap, sym}
+-- `goals::node_of` meets its contract: the node where the walk stopped. Assumes nothing.
 use borrow.Author.Needs.{needs}
-use Rattle.goals.specs.Goals.{goal-of, node-at-end}
+use Rattle.goals.specs.Goals.{goal-of}
 use Rattle.goals.proofs.node_of.Statement.{statement}
 use Rattle.goals.proofs.node_of.Tie as tie
 
-enum-told : tie.Need-enum-told
-enum-told c = search needs
-
-enum-told-2 : tie.Need-enum-told-2
-enum-told-2 c = search needs
-
-enum-known-stop : tie.Need-enum-known-stop
-enum-known-stop c = search needs
+node-at-end-requires : tie.Need-node-at-end-requires
+node-at-end-requires c κs = search needs
 
 returns : tie.Need-returns
-unfolding goal-of node-at-end
-returns c = sym (ap node-at-end (c .enum-told .given .1))
-
-returns-2 : tie.Need-returns-2
-unfolding goal-of node-at-end
-returns-2 c = sym (ap node-at-end (c .enum-told2 .given .1))
-
-returns-3 : tie.Need-returns-3
-unfolding goal-of node-at-end
-returns-3 c = sym (ap node-at-end (c .before .stop .given .1))
+unfolding goal-of
+returns c = c .node-at-end .ensures
 
 pub node-of-spec : {M : Type 1} → statement M
-node-of-spec =
-    tie.close
-    (tie.spec
-    enum-told
-    enum-told-2
-    enum-known-stop
-    returns
-    returns-2
-    returns-3)
+node-of-spec = tie.close (tie.spec node-at-end-requires returns)

@@ -1,30 +1,29 @@
--- A whole walk: from node 1, with no link followed yet. Assumes nothing.
-use mathlib.Core.Path.{ap, _∙_}
-use Rattle.walk.specs.declared.Trail.{Trail}
-use Rattle.walk.specs.Trails.{Names-left, Directory}
-use Rattle.walk.proofs.Found.{sound-walkable}
-use native.Mathlib.Omega.{arith}
-use Rattle.walk.proofs.Wholes.{path-names-valid, whole-walk}
+-- A whole walk: from node 1, with no link followed yet; where it is over, the places of the links are read. Assumes nothing.
+use Rattle.walk.specs.Trails.{no-links}
+use Rattle.walk.proofs.Wholes.{path-names-valid, whole-ready, whole-kept, told, whole-told}
 use Rattle.walk.proofs.walk.Statement.{statement}
 use Rattle.walk.proofs.walk.Tie as tie
 
-no-links-requires : tie.Need-no-links-requires
-no-links-requires c κs = tt
-
 walk-names-requires : tie.Need-walk-names-requires
-unfolding Directory Names-left
+unfolding no-links
 walk-names-requires c κs =
-    let s = c .before .before .before in
-    let few = ap (λ (u : Trail). u .count) (c .no-links .ensures) in (
-      record { indexed = s .pre .0; sound = s .pre .1 .0; few = omega arith },
-      (sound-walkable (s .args .words .now) (s .pre .1 .0) .top, path-names-valid (s .args .path .now) (s .pre .1 .1)),
-    )
+    let start = c .before .before in
+    let sound = start .pre .1 .0 in
+    (whole-ready (start .args .words .now) sound (start .pre .0), path-names-valid (start .args .path .now) (start .pre .1 .1))
+
+places-in-requires : tie.Need-places-in-requires
+unfolding no-links
+places-in-requires c κs =
+    let start = c .before .before .before .before in
+    let sound = start .pre .1 .0 in
+    (start .pre .0 .stands, whole-kept (start .args .words .now) sound (start .args .follow-last) (start .args .path .now) (c .before .walk-names .ensures))
 
 returns : tie.Need-returns
+unfolding no-links told
 returns c =
-    let s = c .before .before .before .before in
-    c .walk-names .ensures
-    ∙ whole-walk (s .args .words .now) (s .pre .1 .0) (s .args .follow-last) (s .args .path .now) (c .before .no-links .ensures)
+    let start = c .before .before .before .before .before in
+    let sound = start .pre .1 .0 in
+    rw (c .places-in .ensures) (whole-told (start .args .words .now) sound (start .args .follow-last) (start .args .path .now) (c .before .before .walk-names .ensures))
 
 pub walk-spec : {M : Type 1} → statement M
-walk-spec = tie.close (tie.spec no-links-requires walk-names-requires returns)
+walk-spec = tie.close (tie.spec walk-names-requires places-in-requires returns)
