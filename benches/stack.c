@@ -1,17 +1,17 @@
-/* The stack that each function of the archive takes, in bytes: each runs on a thread that has TICKBUTTON_STACK bytes and no more, painted before, and
- * told is how far down the paint is gone, counted from the frame that calls. The tables have the deepest walks: a link is followed within the walk of the
- * target before, eight of them one within the other, and a ninth is refused there; behind eight links names are made and removed. Fails where a function takes
- * more than MOST, or writes below its thread's stack. benches/run stack builds and runs it. */
-#define _POSIX_C_SOURCE 200809L
-#include <pthread.h>
+/* The stack that each function of the archive takes, in bytes: each runs on a stack of TICKBUTTON_STACK bytes and no more, painted before (in a context of
+ * its own: a thread cannot have so little on every machine), and told is how far down the paint is gone, counted from the frame that calls. The tables have
+ * the deepest walks: a link is followed within the walk of the target before, eight of them one within the other, and a ninth is refused there; behind eight
+ * links names are made and removed. Fails where a function takes more than MOST, or writes below its stack. benches/run stack builds and runs it. */
+#define _XOPEN_SOURCE 700
 #include <stdio.h>
 #include <stdlib.h>
 #include <string.h>
+#include <ucontext.h>
 
 #include "tickbutton.h"
 
 enum {
-    MOST = 24 * 1024, /* bytes that a function may take: a quarter of the stack is the thread's own, and its caller's */
+    MOST = 24 * 1024, /* bytes that a function may take: a quarter of the stack is its caller's */
     BELOW = 16 * 1024, /* bytes under the stack that have to keep their paint */
     PAINT = 0xA5,
     PATH_NAMES = TICKBUTTON_LONGEST_PATH / 2,
@@ -109,26 +109,35 @@ static const struct measured {
     {"serve_run of a mkdir behind eight links", serve_run, TICKBUTTON_MKDIR, file, "", TICKBUTTON_DONE},
     {"serve_run of an rmdir behind eight links", serve_run, TICKBUTTON_RMDIR, file, "", TICKBUTTON_DONE},
 };
+static const struct measured *measured_now;
 
-/* Runs one of them and remembers the frame from which it was called. */
-static void *on_thread(void *argument) {
-    const struct measured *const one = (const struct measured *)argument;
+/* Runs the one that is measured now and remembers the frame from which it was called. */
+static void on_stack(void) {
     frame = (const uint8_t *)__builtin_frame_address(0);
-    if (tickbutton_word(one->run()) != one->word)
+    if (tickbutton_word(measured_now->run()) != measured_now->word)
         exit(2);
-    return NULL;
+}
+
+/* Runs it on the painted stack. */
+static void run_there(void) {
+    static ucontext_t caller, callee;
+    if (getcontext(&callee) != 0)
+        exit(2);
+    callee.uc_stack.ss_sp = memory + BELOW;
+    callee.uc_stack.ss_size = TICKBUTTON_STACK;
+    callee.uc_link = &caller;
+    makecontext(&callee, on_stack, 0);
+    if (swapcontext(&caller, &callee) != 0)
+        exit(2);
 }
 
 /* The bytes that one of them takes below that frame. */
 static size_t bytes_of(const struct measured *one) {
-    pthread_t thread;
-    pthread_attr_t attributes;
     size_t lowest = 0;
     pack_call(one->call, one->path1, one->path2);
     memset(memory, PAINT, sizeof memory);
-    if (pthread_attr_init(&attributes) != 0 || pthread_attr_setstack(&attributes, memory + BELOW, TICKBUTTON_STACK) != 0 ||
-        pthread_create(&thread, &attributes, on_thread, (void *)one) != 0 || pthread_join(thread, NULL) != 0)
-        exit(2);
+    measured_now = one;
+    run_there();
     while (memory[lowest] == PAINT)
         lowest++;
     if (lowest < BELOW) {

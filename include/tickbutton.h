@@ -1,9 +1,9 @@
-/* The proved name guard, for C programs: the functions of target/staticlib/libexports.a, which `rt staticlib exports` writes.
+/* The proved name guard, for C programs: the functions of target/staticlib/libexports.a, which `./archive` writes.
  *
  *     cc -Iinclude examples/fox.c target/staticlib/libexports.a -o fox
  *
  * What each function gives is proved of the code in the archive (crates/exports). That it is declared right here is tested
- * (tests/linking), not proved.
+ * (tests/comparisons/linking), not proved.
  *
  * A slice is a pointer and a count of its elements. A pointer must not be NULL, even where the count is 0, and what is written must not
  * overlap with what is read. Nothing else is required: any numbers and any bytes are answered. No function keeps a pointer, allocates, or

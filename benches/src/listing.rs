@@ -9,7 +9,7 @@ use crate::filled;
 
 /// Where the two programs are, from the top of the repository.
 const VERDICTS: &str = "target/bin/verdicts";
-const REFERENCE: &str = "reference/target/release/reference";
+const REFERENCE: &str = "target-cargo/release/reference";
 
 fn top() -> PathBuf {
     Path::new(env!("CARGO_MANIFEST_DIR")).join("..")
@@ -72,8 +72,12 @@ fn pair(name: &'static str, trace: PathBuf, calls: usize) -> Group {
     Group { name, rounds: 60, runs: 1, works }
 }
 
-/// A group for each trace, where both programs are built.
+/// A group for each trace, where both programs are built and the machine is the one that `verdicts` is compiled for.
 pub fn groups() -> Vec<Group> {
+    if cfg!(not(target_arch = "x86_64")) {
+        eprintln!("benches: {VERDICTS} is for x86-64: the listing is left out");
+        return Vec::new();
+    }
     if !top().join(VERDICTS).exists() || !top().join(REFERENCE).exists() {
         eprintln!("benches: no {VERDICTS} or no {REFERENCE}: the listing is left out");
         return Vec::new();

@@ -1,4 +1,4 @@
-//! The fox in Rust: one user checks a name, another cannot make it. After `rt staticlib exports`:
+//! The fox in Rust: one user checks a name, another cannot make it. After `./archive`:
 //! `cargo run --offline --example fox`.
 
 use tickbutton::{Call, Refusal, Service};

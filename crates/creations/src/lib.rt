@@ -4,15 +4,20 @@ ghost use Prim.Native.Nat.{_≤_, _<_};
 ghost use Rattle.model.specs.Calls.{make, create, mkdir, symlink, link};
 ghost use Rattle.model.specs.Words.{unpack};
 ghost use Rattle.records.specs.Reading.{part-of};
-ghost use Rattle.calls.specs.Meets.{Meets};
-ghost use Rattle.accepted.specs.Ready.{call-in, Ready, Walks};
-use accepted::reach;
-use accepted::walk_part;
-use goals::Stop;
+ghost use Rattle.rows.specs.Meets.{Meets};
+ghost use Rattle.reaching.specs.Ready.{call-in, Ready, Walks, Walks-twice};
+ghost use Rattle.model.specs.Paths.{longest-target};
+ghost use Rattle.model.specs.Records.{blank, target, row-of};
+
+pub mod at_end;
+
+use at_end::link_at;
+use at_end::make_at;
 use index::BUCKETS;
-use making::link::link_at;
-use making::make::make_at;
 use model::Answer;
+use reaching::Way;
+use reaching::reach;
+use reaching::reach_both;
 use records::Fields;
 use rows::DIRECTORY;
 use rows::ENTRY_ROWS;
@@ -28,18 +33,19 @@ fn make(
     fields: Fields,
     kind: u8,
 ) -> Answer
-    requires { ⌜ (Ready (now words) (now heads) (now next) (now bytes) fields) × ((Walks fields) × ((1 ≤ kind) × ((kind < 4) × (fields .path2 .length ≤ 64)))) ⌝ }
+    requires { ⌜ (Ready (now words) (now heads) (now next) (now bytes) fields) × ((Walks fields) × ((1 ≤ kind) × ((kind < 4) × (fields .path2 .length ≤ longest-target)))) ⌝ }
     ensures { λ r. ⌜ Meets (now (words .entry)) (make kind (part-of (now (bytes .entry)) (fields .path2)) (unpack (now (words .entry))) (call-in (now (bytes .entry)) fields)) r (now (words .exit)) ⌝ }
 {
-    let walk = reach(words, heads, next, bytes, fields, false);
-    let stop = walk.stop;
-    if let Stop::Refused(number) = stop {
-        return Answer::Refused(number);
-    }
+    let reached = reach(words, heads, next, bytes, fields, false);
+    let way = reached.way;
+    let walk = reached.walk;
     let target = fields.path2;
     let start = target.start;
     let end = start + target.length;
-    make_at(words, fields.process, walk, kind, &bytes[start..end])
+    match way {
+        Way::Refused(number) => Answer::Refused(number),
+        Way::Open(caller) => make_at(words, caller, walk, kind, &bytes[start..end]),
+    }
 }
 
 pub fn create(
@@ -49,7 +55,7 @@ pub fn create(
     bytes: &[u8],
     fields: Fields,
 ) -> Answer
-    requires { ⌜ (Ready (now words) (now heads) (now next) (now bytes) fields) × (fields .call ≡ 8) ⌝ }
+    requires { ⌜ (Ready (now words) (now heads) (now next) (now bytes) fields) × ((Walks fields) × (row-of (fields .call) .path2 ≡ blank)) ⌝ }
     ensures { λ r. ⌜ Meets (now (words .entry)) (create (unpack (now (words .entry))) (call-in (now (bytes .entry)) fields)) r (now (words .exit)) ⌝ }
 {
     make(words, heads, next, bytes, fields, FILE)
@@ -62,7 +68,7 @@ pub fn mkdir(
     bytes: &[u8],
     fields: Fields,
 ) -> Answer
-    requires { ⌜ (Ready (now words) (now heads) (now next) (now bytes) fields) × (fields .call ≡ 9) ⌝ }
+    requires { ⌜ (Ready (now words) (now heads) (now next) (now bytes) fields) × ((Walks fields) × (row-of (fields .call) .path2 ≡ blank)) ⌝ }
     ensures { λ r. ⌜ Meets (now (words .entry)) (mkdir (unpack (now (words .entry))) (call-in (now (bytes .entry)) fields)) r (now (words .exit)) ⌝ }
 {
     make(words, heads, next, bytes, fields, DIRECTORY)
@@ -75,7 +81,7 @@ pub fn symlink(
     bytes: &[u8],
     fields: Fields,
 ) -> Answer
-    requires { ⌜ (Ready (now words) (now heads) (now next) (now bytes) fields) × (fields .call ≡ 10) ⌝ }
+    requires { ⌜ (Ready (now words) (now heads) (now next) (now bytes) fields) × ((Walks fields) × (row-of (fields .call) .path2 ≡ target)) ⌝ }
     ensures { λ r. ⌜ Meets (now (words .entry)) (symlink (unpack (now (words .entry))) (call-in (now (bytes .entry)) fields)) r (now (words .exit)) ⌝ }
 {
     make(words, heads, next, bytes, fields, LINK)
@@ -89,19 +95,15 @@ pub fn link(
     bytes: &[u8],
     fields: Fields,
 ) -> Answer
-    requires { ⌜ (Ready (now words) (now heads) (now next) (now bytes) fields) × (fields .call ≡ 11) ⌝ }
+    requires { ⌜ (Ready (now words) (now heads) (now next) (now bytes) fields) × ((Walks fields) × (Walks-twice fields)) ⌝ }
     ensures { λ r. ⌜ Meets (now (words .entry)) (link (unpack (now (words .entry))) (call-in (now (bytes .entry)) fields)) r (now (words .exit)) ⌝ }
 {
-    let walk = reach(words, heads, next, bytes, fields, false);
-    let stop = walk.stop;
-    if let Stop::Refused(number) = stop {
-        return Answer::Refused(number);
+    let reached = reach_both(words, heads, next, bytes, fields);
+    let way = reached.way;
+    let new = reached.new;
+    let old = reached.old;
+    match way {
+        Way::Refused(number) => Answer::Refused(number),
+        Way::Open(caller) => link_at(words, caller, new, old),
     }
-    let old_path = fields.path2;
-    let old = walk_part(words, heads, next, bytes, old_path, false);
-    let old_stop = old.stop;
-    if let Stop::Refused(number) = old_stop {
-        return Answer::Refused(number);
-    }
-    link_at(words, fields.process, walk, old)
 }

@@ -1,17 +1,12 @@
 -- The arms of the dispatch: which of the model's calls each number is. Assumes nothing.
-use mathlib.Core.Path.{_≡_}
+use mathlib.Core.Path.{_≡_, refl}
 use mathlib.Core.Logic.{_≢_}
-use Prim.Native.Nat.{ℕ, suc, _≤_}
+use Prim.Native.Nat.{ℕ, zero, suc, _-_, _≤_}
 use native.Mathlib.Omega.{arith}
-use borrow.Author.Tests.{leb-true}
-use lib.Dec.{leb}
-use Rattle.model.specs.Refusals.{Outcome}
+use Rattle.model.specs.Refusals.{Outcome, refused}
 use Rattle.model.specs.Tables.{Tables}
-use Rattle.model.specs.Records.{Call, calls, known}
+use Rattle.model.specs.Records.{Call}
 use Rattle.model.specs.Calls.{Change, enter, fork, exec, exit, check, look, use-of, create, mkdir, symlink, link, unlink, rmdir, step}
-use Rattle.laws.proofs.Bools.{and-left, and-right}
-use Rattle.invariants.proofs.Accepted.{fields-right}
-use Rattle.invariants.proofs.Order.{Proper}
 
 -- THE CALL OF EACH NUMBER
 
@@ -76,13 +71,27 @@ module _ (t : Tables) (r : Call) where
 past : {n c : ℕ} → n ≤ c → c ≢ n → suc n ≤ c
 past {n} {c} low other = omega arith
 
--- a proper call has one of the thirteen numbers
-pub no-other : (r : Call) → Proper r → r .call ≢ 1 → r .call ≢ 2 → r .call ≢ 3 → r .call ≢ 4 → r .call ≢ 5 → r .call ≢ 6 → r .call ≢ 7
-    → r .call ≢ 8 → r .call ≢ 9 → r .call ≢ 10 → r .call ≢ 11 → r .call ≢ 12 → r .call ≢ 13 → ⊥
-unfolding known calls
-no-other r proper a b c d e f g h i j k l m =
-    let there = fields-right r (proper .fields) .known-call in
-    let low = leb-true 1 (r .call) (and-left (leb 1 (r .call)) (leb (r .call) 13) there) in
-    let high = leb-true (r .call) 13 (and-right (leb 1 (r .call)) (leb (r .call) 13) there) in
-    let end = past (past (past (past (past (past (past (past (past (past (past (past (past low a) b) c) d) e) f) g) h) i) j) k) l) m in
-    omega arith
+-- at least fourteen is fourteen and something
+less-fourteen : (c : ℕ) → 14 ≤ c → c ≡ suc (suc (suc (suc (suc (suc (suc (suc (suc (suc (suc (suc (suc (suc (c - 14))))))))))))))
+less-fourteen c h = omega arith
+
+module _ (t : Tables) (r : Call) where
+  no-call : r .call ≡ 0 → step t r ≡ refused 2
+  unfolding step
+  no-call e = rw e
+
+  behind-all : (n : ℕ) → r .call ≡ suc (suc (suc (suc (suc (suc (suc (suc (suc (suc (suc (suc (suc (suc n))))))))))))) → step t r ≡ refused 2
+  unfolding step
+  behind-all n e = rw e
+
+  -- a number that is none of the calls' is refused with 2
+  pub step-unknown : r .call ≢ 1 → r .call ≢ 2 → r .call ≢ 3 → r .call ≢ 4 → r .call ≢ 5 → r .call ≢ 6 → r .call ≢ 7 → r .call ≢ 8
+      → r .call ≢ 9 → r .call ≢ 10 → r .call ≢ 11 → r .call ≢ 12 → r .call ≢ 13 → step t r ≡ refused 2
+  step-unknown a b c d e f g h i j k l m = go (r .call) refl
+    where
+      go : (n : ℕ) → r .call ≡ n → step t r ≡ refused 2
+      go zero is = no-call is
+      go (suc n) is =
+          let low : 1 ≤ r .call = omega arith in
+          let end = past (past (past (past (past (past (past (past (past (past (past (past (past low a) b) c) d) e) f) g) h) i) j) k) l) m in
+          behind-all (r .call - 14) (less-fourteen (r .call) end)

@@ -1,12 +1,8 @@
 // The thirteen calls by number.
 ghost use Rattle.model.specs.Calls.{step};
 ghost use Rattle.model.specs.Words.{unpack};
-ghost use Rattle.calls.specs.Meets.{Meets};
-ghost use Rattle.accepted.specs.Ready.{call-in, Ready};
-use calls::enter::enter;
-use calls::exec::exec;
-use calls::exit::exit;
-use calls::fork::fork;
+ghost use Rattle.rows.specs.Meets.{Meets};
+ghost use Rattle.reaching.specs.Ready.{call-in, Ready-where-known};
 use creations::create;
 use creations::link;
 use creations::mkdir;
@@ -17,6 +13,10 @@ use looks::look;
 use looks::use_of;
 use model::Answer;
 use model::BAD_FIELD;
+use processes::enter::enter;
+use processes::exec::exec;
+use processes::exit::exit;
+use processes::fork::fork;
 use records::Fields;
 use removals::rmdir;
 use removals::unlink;
@@ -29,7 +29,7 @@ pub fn dispatch(
     bytes: &[u8],
     fields: Fields,
 ) -> Answer
-    requires { ⌜ Ready (now words) (now heads) (now next) (now bytes) fields ⌝ }
+    requires { ⌜ Ready-where-known (now words) (now heads) (now next) (now bytes) fields ⌝ }
     ensures { λ r. ⌜ Meets (now (words .entry)) (step (unpack (now (words .entry))) (call-in (now (bytes .entry)) fields)) r (now (words .exit)) ⌝ }
 {
     let call = fields.call;

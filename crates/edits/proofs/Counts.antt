@@ -7,19 +7,20 @@ use Prim.Native.Nat.{ℕ, zero, suc, _+_, _*_, _-_, _/_, _≤_, _<_}
 use native.Mathlib.Omega.{arith}
 use native.Mathlib.Decide.{ℕ-discrete}
 use borrow.Author.Tests.{eq-eqb, ne-eqb}
-use borrow.Rule.Slice.PartMut.{putMid, midOf}
 use lib.Dec.{eqb}
 use lib.ListN.{length, getD, set, take, drop, length-take, length-drop, length-set, take-append-drop}
 use lib.Seq.{sets, sets-eq, getD-take, getD-drop, set-out, set-getD, drop-set-lt, drop-cons, drop-drop}
 use Rattle.model.specs.Lists.{filled}
-use Rattle.model.specs.Tables.{Node, no-node, node-at}
+use Rattle.model.specs.Paths.{longest-target}
+use Rattle.model.specs.Tables.{node-rows, Node, no-node, node-at, with-nodes}
 use Rattle.model.specs.Calls.{set-node, one-more, one-less}
-use Rattle.model.specs.Words.{words, pack-node, unpack-node, unpack}
-use Rattle.invariants.proofs.Words.{Node-fits, node-wide, node-back}
-use Rattle.rows.specs.Stands.{Stands, Becomes, with-nodes, node-row}
-use Rattle.rows.proofs.Parts.{nodes-full, in-part, read-node}
-use Rattle.rows.proofs.Fields.{node-row-fits, node-words, node-head, node-in-row}
-use Rattle.rows.proofs.Writes.{write-node}
+use Rattle.model.specs.Words.{node-words, all-node-words, first-node-word, words, unpack}
+use Rattle.laws.proofs.Words.{Node-fits, node-back}
+use Rattle.rows.specs.Blocks.{target-words}
+use Rattle.rows.specs.Stands.{Stands, Becomes, node-row}
+use Rattle.rows.proofs.Parts.{part, node-part, mid-long, nodes-full, in-part, read-node}
+use Rattle.rows.proofs.Fields.{node-row-fits, node-packed, node-head, node-in-row}
+use Rattle.rows.proofs.Writes.{put-part, write-node}
 use Rattle.edits.specs.Nodes.{with-count}
 
 -- stores of what stands there already change nothing
@@ -41,31 +42,34 @@ sets-first l i k a b rest h e =
     let d : drop (suc i) (set l i b) ≡ drop (suc i) l = drop-set-lt (suc i) l i b (omega arith) in
     ap (sets (set l i b) (suc i)) (q ∙ ap (take k) (sym d)) ∙ sets-same (set l i b) (suc i) k (omega (arith, length-set l i b))
 
-module _ {w : List ℕ} (s : Stands w) (row : ℕ) (r : row < 256) (count : ℕ) (used : 1 ≤ node-row w row .kind) (c : count < 1024) where
+module _ {w : List ℕ} (s : Stands w) (row : ℕ) (r : row < node-rows) (count : ℕ) (used : 1 ≤ node-row w row .kind) (c : count < 1024) where
   recounted-fits : Node-fits (with-count count (node-row w row))
   unfolding with-count
   recounted-fits =
       let f = node-row-fits w row in
       record { free = λ q. absurd (let z : ⊥ = omega arith in z); kind = f .kind; count = c; target = f .target }
 
-  pub set-count-is : {p : List ℕ} → p ≡ set (midOf 2560 4352 w) (row * 17) (getD (midOf 2560 4352 w) (row * 17) 0 / 8388608 * 8388608 + count * 8192)
-      → Becomes (putMid 2560 4352 w p) (with-nodes (unpack w) (set (unpack w .nodes) row (with-count count (node-row w row))))
+  pub set-count-is : {p : List ℕ} → p ≡ set (part node-part w) (row * node-words) (getD (part node-part w) (row * node-words) 0 / 8388608 * 8388608 + count * 8192)
+      → Becomes (put-part node-part w p) (with-nodes (unpack w) (set (unpack w .nodes) row (with-count count (node-row w row))))
   unfolding with-count
   set-count-is {p} e =
       let l = s .long in
       let x = node-row w row in
       let f = node-row-fits w row in
       let k = f .count in
-      let g : getD (midOf 2560 4352 w) (row * 17) 0 ≡ x .kind * 1073741824 + length (x .target) * 8388608 + x .count * 8192
-      = getD-take 4352 (drop 2560 w) (row * 17) 0 (omega arith) ∙ getD-drop 2560 w (row * 17) 0 ∙ node-head s row r in
-      let n : getD (midOf 2560 4352 w) (row * 17) 0 / 8388608 * 8388608 + count * 8192 ≡ x .kind * 1073741824 + length (x .target) * 8388608 + count * 8192 = omega arith in
-      let m : length (midOf 2560 4352 w) ≡ 4352 = simp (length-take, length-drop) (omega arith) in
-      let t : take 17 (drop (row * 17) (midOf 2560 4352 w)) ≡ (x .kind * 1073741824 + length (x .target) * 8388608 + x .count * 8192) ∷ words (filled 64 (x .target))
-      = in-part unpack-node pack-node 256 17 node-wide 2560 w (omega arith) row r ∙ read-node s row r .words ∙ node-words f in
+      let nodes = part node-part w in
+      let at = row * node-words in
+      let rest = words (filled longest-target (x .target)) in
+      let was = x .kind * 1073741824 + length (x .target) * 8388608 + x .count * 8192 in
+      let will = x .kind * 1073741824 + length (x .target) * 8388608 + count * 8192 in
+      let g : getD nodes at 0 ≡ was
+      = getD-take all-node-words (drop first-node-word w) at 0 (omega arith) ∙ getD-drop first-node-word w at 0 ∙ node-head s row r in
+      let n : getD nodes at 0 / 8388608 * 8388608 + count * 8192 ≡ will = omega arith in
+      let m : length nodes ≡ all-node-words = mid-long first-node-word all-node-words w (omega arith) in
+      let t : take node-words (drop at nodes) ≡ was ∷ rest
+      = in-part node-part w (omega arith) row r ∙ read-node s row r ∙ node-packed f in
       write-node s row (with-count count x) r (node-back recounted-fits)
-      (e ∙ ap (set (midOf 2560 4352 w) (row * 17)) n
-      ∙ sym (sets-first (midOf 2560 4352 w) (row * 17) 16 (x .kind * 1073741824 + length (x .target) * 8388608 + x .count * 8192) (x .kind * 1073741824 + length (x .target) * 8388608 + count * 8192) (words (filled 64 (x .target))) (omega arith) t)
-      ∙ ap (sets (midOf 2560 4352 w) (row * 17)) (sym (node-words recounted-fits)))
+      (e ∙ ap (set nodes at) n ∙ sym (sets-first nodes at target-words was will rest (omega arith) t) ∙ ap (sets nodes at) (sym (node-packed recounted-fits)))
 
 -- A NODE BY ITS NUMBER
 
@@ -76,7 +80,7 @@ set-in-row (suc n) x xs h = let e : suc n - 1 ≡ n = omega arith in ap (λ m. s
 
 module _ {w : List ℕ} (s : Stands w) (n : ℕ) where
   -- no node has this number, so none is set
-  pub no-node-set : (n ≡ 0) ⊎ (256 < n) → (x : Node) → Becomes w (with-nodes (unpack w) (set-node n x (unpack w .nodes)))
+  pub no-node-set : (n ≡ 0) ⊎ (node-rows < n) → (x : Node) → Becomes w (with-nodes (unpack w) (set-node n x (unpack w .nodes)))
   unfolding set-node
   no-node-set (inl e) x = record { stands = s; tables = ap (λ m. with-nodes (unpack w) (set-node m x (unpack w .nodes))) (sym e) }
   no-node-set (inr h) x =

@@ -4,12 +4,15 @@ ghost use Prim.Native.Nat.{_+_, _*_, _/_, _≤_, _<_};
 ghost use lib.ListN.{length, getD, set, replicate};
 ghost use lib.Seq.{sets};
 ghost use Rattle.model.specs.Lists.{filled};
-ghost use Rattle.model.specs.Tables.{no-entry, no-node, no-hold, no-process, node-at};
+ghost use Rattle.model.specs.Paths.{longest-target};
+ghost use Rattle.model.specs.Tables.{entry-rows, node-rows, hold-rows, process-rows, no-entry, no-node, no-hold, no-process, node-at};
+ghost use Rattle.model.specs.Tables.{with-entries, with-nodes, with-holds, with-processes};
 ghost use Rattle.model.specs.Calls.{set-node, one-more, one-less};
-ghost use Rattle.model.specs.Words.{words, unpack};
-ghost use Rattle.rows.specs.Rows.{entry-of, hold-of, named-words, hold-words, Good-entry, Good-hold};
-ghost use Rattle.rows.specs.Stands.{Stands, Becomes, with-entries, with-nodes, with-holds, with-processes, node-row};
-ghost use Rattle.edits.specs.Nodes.{node-words, with-count};
+ghost use Rattle.model.specs.Words.{entry-words, node-words, hold-words, all-node-words, all-hold-words, all-process-words, words, unpack};
+ghost use Rattle.rows.specs.Blocks.{target-words};
+ghost use Rattle.rows.specs.Rows.{entry-of, hold-of, named-as-words, hold-as-words, Good-entry, Good-hold};
+ghost use Rattle.rows.specs.Stands.{Stands, Becomes, node-row};
+ghost use Rattle.edits.specs.Nodes.{node-as-words, with-count};
 use rows::Block;
 use rows::COUNT_UNIT;
 use rows::ENTRY_WIDTH;
@@ -22,6 +25,7 @@ use rows::NODE_ROWS;
 use rows::NODE_WIDTH;
 use rows::NODES_START;
 use rows::PROCESSES_START;
+use rows::ROLE_PLACE;
 use rows::TARGET_WORDS;
 use rows::TOP_UNIT;
 use rows::UPPER_UNIT;
@@ -49,8 +53,8 @@ fn put_zeros(part: &mut [u32], at: usize, count: usize)
 
 // What an entry and a hold begin with: two numbers in one word, and a name.
 fn put_named(part: &mut [u32], at: usize, upper: u16, lower: u16, name: Block)
-    requires { ⌜ at + 5 ≤ length (now part) ⌝ }
-    ensures { λ _. ⌜ now (part .exit) ≡ sets (now (part .entry)) at (named-words upper lower name) ⌝ }
+    requires { ⌜ at + entry-words ≤ length (now part) ⌝ }
+    ensures { λ _. ⌜ now (part .exit) ≡ sets (now (part .entry)) at (named-as-words upper lower name) ⌝ }
 {
     part[at] = pair_of(upper, lower);
     part[at + 1] = name.first;
@@ -62,7 +66,7 @@ fn put_named(part: &mut [u32], at: usize, upper: u16, lower: u16, name: Block)
 // ENTRIES
 
 pub fn set_entry(words: &mut [u32], row: usize, entry: EntryRow)
-    requires { ⌜ (Stands (now words)) × ((row < 512) × (Good-entry entry)) ⌝ }
+    requires { ⌜ (Stands (now words)) × ((row < entry-rows) × (Good-entry entry)) ⌝ }
     ensures { λ _. ⌜ Becomes (now (words .exit)) (with-entries (unpack (now (words .entry))) (set (unpack (now (words .entry)) .entries) row (entry-of entry))) ⌝ }
 {
     let name = entry.name;
@@ -76,7 +80,7 @@ pub fn set_entry(words: &mut [u32], row: usize, entry: EntryRow)
 }
 
 pub fn clear_entry(words: &mut [u32], row: usize)
-    requires { ⌜ (Stands (now words)) × (row < 512) ⌝ }
+    requires { ⌜ (Stands (now words)) × (row < entry-rows) ⌝ }
     ensures { λ _. ⌜ Becomes (now (words .exit)) (with-entries (unpack (now (words .entry))) (set (unpack (now (words .entry)) .entries) row no-entry)) ⌝ }
 {
     put_zeros(&mut words[0..NODES_START], row * ENTRY_WIDTH, ENTRY_WIDTH);
@@ -93,8 +97,8 @@ fn node_head(kind: u8, length: usize, count: u16) -> u32
 
 // The target's bytes, four to a word, and zeros behind them.
 fn put_target(nodes: &mut [u32], at: usize, target: &[u8])
-    requires { ⌜ (at + 16 ≤ length (now nodes)) × (length (now target) ≤ 64) ⌝ }
-    ensures { λ _. ⌜ now (nodes .exit) ≡ sets (now (nodes .entry)) at (words (filled 64 (now (target .entry)))) ⌝ }
+    requires { ⌜ (at + target-words ≤ length (now nodes)) × (length (now target) ≤ longest-target) ⌝ }
+    ensures { λ _. ⌜ now (nodes .exit) ≡ sets (now (nodes .entry)) at (words (filled longest-target (now (target .entry)))) ⌝ }
 {
     let mut k = 0;
     while k < TARGET_WORDS {
@@ -104,8 +108,8 @@ fn put_target(nodes: &mut [u32], at: usize, target: &[u8])
 }
 
 fn put_node(nodes: &mut [u32], row: usize, kind: u8, count: u16, target: &[u8])
-    requires { ⌜ (length (now nodes) ≡ 4352) × ((row < 256) × ((kind < 4) × ((count < 1024) × (length (now target) ≤ 64)))) ⌝ }
-    ensures { λ _. ⌜ now (nodes .exit) ≡ sets (now (nodes .entry)) (row * 17) (node-words kind count (now (target .entry))) ⌝ }
+    requires { ⌜ (length (now nodes) ≡ all-node-words) × ((row < node-rows) × ((kind < 4) × ((count < 1024) × (length (now target) ≤ longest-target)))) ⌝ }
+    ensures { λ _. ⌜ now (nodes .exit) ≡ sets (now (nodes .entry)) (row * node-words) (node-as-words kind count (now (target .entry))) ⌝ }
 {
     let at = row * NODE_WIDTH;
     nodes[at] = node_head(kind, target.len(), count);
@@ -113,7 +117,7 @@ fn put_node(nodes: &mut [u32], row: usize, kind: u8, count: u16, target: &[u8])
 }
 
 pub fn set_node(words: &mut [u32], row: usize, kind: u8, count: u16, target: &[u8])
-    requires { ⌜ (Stands (now words)) × ((row < 256) × ((1 ≤ kind) × ((kind < 4) × ((count < 1024) × (length (now target) ≤ 64))))) ⌝ }
+    requires { ⌜ (Stands (now words)) × ((row < node-rows) × ((1 ≤ kind) × ((kind < 4) × ((count < 1024) × (length (now target) ≤ longest-target))))) ⌝ }
     ensures { λ _. ⌜ Becomes (now (words .exit)) (with-nodes (unpack (now (words .entry))) (set (unpack (now (words .entry)) .nodes) row (record { kind = kind; count = count; target = now (target .entry) }))) ⌝ }
 {
     put_node(
@@ -126,7 +130,7 @@ pub fn set_node(words: &mut [u32], row: usize, kind: u8, count: u16, target: &[u
 }
 
 fn clear_node(words: &mut [u32], row: usize)
-    requires { ⌜ (Stands (now words)) × (row < 256) ⌝ }
+    requires { ⌜ (Stands (now words)) × (row < node-rows) ⌝ }
     ensures { λ _. ⌜ Becomes (now (words .exit)) (with-nodes (unpack (now (words .entry))) (set (unpack (now (words .entry)) .nodes) row no-node)) ⌝ }
 {
     put_zeros(
@@ -146,24 +150,24 @@ fn role_word(role: u8) -> u32
 }
 
 fn put_hold(holds: &mut [u32], row: usize, hold: HoldRow)
-    requires { ⌜ (length (now holds) ≡ 1536) × ((row < 256) × (hold .role < 4)) ⌝ }
-    ensures { λ _. ⌜ now (holds .exit) ≡ sets (now (holds .entry)) (row * 6) (hold-words hold) ⌝ }
+    requires { ⌜ (length (now holds) ≡ all-hold-words) × ((row < hold-rows) × (hold .role < 4)) ⌝ }
+    ensures { λ _. ⌜ now (holds .exit) ≡ sets (now (holds .entry)) (row * hold-words) (hold-as-words hold) ⌝ }
 {
     let at = row * HOLD_WIDTH;
     let name = hold.name;
     put_named(holds, at, hold.directory, hold.process, name);
-    holds[at + 5] = role_word(hold.role);
+    holds[at + ROLE_PLACE] = role_word(hold.role);
 }
 
 pub fn set_hold(words: &mut [u32], row: usize, hold: HoldRow)
-    requires { ⌜ (Stands (now words)) × ((row < 256) × ((hold .role < 4) × (Good-hold hold))) ⌝ }
+    requires { ⌜ (Stands (now words)) × ((row < hold-rows) × ((hold .role < 4) × (Good-hold hold))) ⌝ }
     ensures { λ _. ⌜ Becomes (now (words .exit)) (with-holds (unpack (now (words .entry))) (set (unpack (now (words .entry)) .holds) row (hold-of hold))) ⌝ }
 {
     put_hold(&mut words[HOLDS_START..PROCESSES_START], row, hold);
 }
 
 pub fn clear_hold(words: &mut [u32], row: usize)
-    requires { ⌜ (Stands (now words)) × (row < 256) ⌝ }
+    requires { ⌜ (Stands (now words)) × (row < hold-rows) ⌝ }
     ensures { λ _. ⌜ Becomes (now (words .exit)) (with-holds (unpack (now (words .entry))) (set (unpack (now (words .entry)) .holds) row no-hold)) ⌝ }
 {
     put_zeros(
@@ -176,21 +180,21 @@ pub fn clear_hold(words: &mut [u32], row: usize)
 // PROCESSES
 
 fn put_process(processes: &mut [u32], row: usize, process: u16, user: u16)
-    requires { ⌜ (length (now processes) ≡ 64) × (row < 64) ⌝ }
+    requires { ⌜ (length (now processes) ≡ all-process-words) × (row < process-rows) ⌝ }
     ensures { λ _. ⌜ now (processes .exit) ≡ set (now (processes .entry)) row (process * 65536 + user) ⌝ }
 {
     processes[row] = pair_of(process, user);
 }
 
 pub fn set_process(words: &mut [u32], row: usize, process: u16, user: u16)
-    requires { ⌜ (Stands (now words)) × ((row < 64) × (1 ≤ process)) ⌝ }
+    requires { ⌜ (Stands (now words)) × ((row < process-rows) × (1 ≤ process)) ⌝ }
     ensures { λ _. ⌜ Becomes (now (words .exit)) (with-processes (unpack (now (words .entry))) (set (unpack (now (words .entry)) .processes) row (record { number = process; user = user }))) ⌝ }
 {
     put_process(&mut words[PROCESSES_START..WORD_COUNT], row, process, user);
 }
 
 pub fn clear_process(words: &mut [u32], row: usize)
-    requires { ⌜ (Stands (now words)) × (row < 64) ⌝ }
+    requires { ⌜ (Stands (now words)) × (row < process-rows) ⌝ }
     ensures { λ _. ⌜ Becomes (now (words .exit)) (with-processes (unpack (now (words .entry))) (set (unpack (now (words .entry)) .processes) row no-process)) ⌝ }
 {
     put_process(&mut words[PROCESSES_START..WORD_COUNT], row, 0, 0);
@@ -207,15 +211,15 @@ fn recounted(head: u32, count: u16) -> u32
 }
 
 fn put_count(nodes: &mut [u32], row: usize, count: u16)
-    requires { ⌜ (length (now nodes) ≡ 4352) × ((row < 256) × (count < 1024)) ⌝ }
-    ensures { λ _. ⌜ now (nodes .exit) ≡ set (now (nodes .entry)) (row * 17) (getD (now (nodes .entry)) (row * 17) 0 / 8388608 * 8388608 + count * 8192) ⌝ }
+    requires { ⌜ (length (now nodes) ≡ all-node-words) × ((row < node-rows) × (count < 1024)) ⌝ }
+    ensures { λ _. ⌜ now (nodes .exit) ≡ set (now (nodes .entry)) (row * node-words) (getD (now (nodes .entry)) (row * node-words) 0 / 8388608 * 8388608 + count * 8192) ⌝ }
 {
     let at = row * NODE_WIDTH;
     nodes[at] = recounted(nodes[at], count);
 }
 
 fn set_count(words: &mut [u32], row: usize, count: u16)
-    requires { ⌜ (Stands (now words)) × ((row < 256) × ((1 ≤ node-row (now words) row .kind) × (count < 1024))) ⌝ }
+    requires { ⌜ (Stands (now words)) × ((row < node-rows) × ((1 ≤ node-row (now words) row .kind) × (count < 1024))) ⌝ }
     ensures { λ _. ⌜ Becomes (now (words .exit)) (with-nodes (unpack (now (words .entry))) (set (unpack (now (words .entry)) .nodes) row (with-count count (node-row (now (words .entry)) row)))) ⌝ }
 {
     put_count(&mut words[NODES_START..HOLDS_START], row, count);

@@ -12,6 +12,8 @@ use Rattle.exports.proofs.tickbutton_pack.Kinds as pack-kinds
 use Rattle.exports.proofs.tickbutton_pack.Reads as pack-reads
 use Rattle.exports.proofs.tickbutton_sound.Kinds as sound-kinds
 use Rattle.exports.proofs.tickbutton_sound.Reads as sound-reads
+use Rattle.exports.proofs.tickbutton_serve_run.Kinds as run-kinds
+use Rattle.exports.proofs.tickbutton_serve_run.Reads as run-reads
 use Rattle.exports.proofs.tickbutton_walk.Kinds as walk-kinds
 use Rattle.exports.proofs.tickbutton_walk.Reads as walk-reads
 
@@ -51,3 +53,16 @@ walk-determined κs a x y s t p q = p .answer ∙ sym (q .answer)
 -- the goal is the fourth parameter
 pub walk-goal-determined : One-exit 3 walk-kinds.ps walk-kinds.r walk-reads.Post (λ κs s. now (s .1 .1 .1 .0))
 walk-goal-determined κs a x y s t p q = p .numbers ∙ sym (q .numbers)
+
+pub run-determined : One-result 4 run-kinds.ps run-kinds.r run-reads.Post
+run-determined κs a x y s t p q = p .served ∙ sym (q .served)
+
+-- the words are the first parameter, the slots the third, the bytes taken the fourth
+pub run-words-determined : One-exit 4 run-kinds.ps run-kinds.r run-reads.Post (λ κs s. now (s .0))
+run-words-determined κs a x y s t p q = p .words ∙ sym (q .words)
+
+pub run-slots-determined : One-exit 4 run-kinds.ps run-kinds.r run-reads.Post (λ κs s. now (s .1 .1 .0))
+run-slots-determined κs a x y s t p q = p .slots ∙ sym (q .slots)
+
+pub run-taken-determined : One-exit 4 run-kinds.ps run-kinds.r run-reads.Post (λ κs s. now (s .1 .1 .1 .0))
+run-taken-determined κs a x y s t p q = p .taken ∙ sym (q .taken)

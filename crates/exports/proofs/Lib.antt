@@ -2,4 +2,3 @@ pub mod Bounds
 pub mod Served
 pub mod Walked
 pub mod Determined
-pub mod RunDetermined

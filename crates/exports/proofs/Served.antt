@@ -6,32 +6,21 @@ use native.Mathlib.Omega.{arith}
 use Rattle.model.specs.Refusals.{Outcome, refused, granted}
 use Rattle.model.specs.Answers.{number-of}
 use Rattle.model.specs.Records.{taken}
-use Rattle.model.specs.Calls.{Change}
-use Rattle.model.specs.Serve.{judged, served, serve, made-fresh}
+use Rattle.model.specs.Serve.{serve, made-fresh}
 use Rattle.model.specs.declared.Verdict.{Verdict}
 use Rattle.fresh.specs.Prepared.{Prepares, answer-of}
 use Rattle.fresh.specs.declared.Prepared.the-variants as fresh-cases
 use Rattle.service.specs.Serves.{Serves, verdict-of}
+use Rattle.service.proofs.Demands.{taken-is}
+use Rattle.service.proofs.Verdicts.{serve-takes}
 use Rattle.exports.specs.Numbers.{answer-number, word-number, fresh-number, served-number}
 use Rattle.exports.proofs.Bounds.{taken-small}
 
 -- SERVING
 
-served-takes : (w : List ℕ) (n : ℕ) (o : Outcome Change) → served w n o .taken ≡ n
-unfolding served
-served-takes w n (refused k) = refl
-served-takes w n (granted c) = refl
-
-serve-takes : (w s : List ℕ) → serve w s .taken ≡ taken s
-unfolding serve
-serve-takes w s = served-takes w (taken s) (judged w s)
-
 module _ {w s v : List ℕ} {r : Verdict} (serves : Serves w s r v) where
   pub few-taken : r .taken < 65536
-  unfolding verdict-of
-  few-taken =
-      let is : r .taken ≡ taken s = ap (λ (x : Verdict). x .taken) (serves .verdict) ∙ serve-takes w s in
-      rw is (taken-small s)
+  few-taken = let is : r .taken ≡ taken s = taken-is serves ∙ serve-takes w s in rw is (taken-small s)
 
   pub answer-told : answer-number (word-number (r .answer)) (number-of (r .answer)) (r .taken) ≡ served-number (serve w s)
   unfolding verdict-of served-number

@@ -5,8 +5,8 @@ use Prim.Native.Nat.{ℕ}
 use native.Mathlib.Omega.{arith}
 use Rattle.model.specs.Refusals.{Outcome, refused, granted}
 use Rattle.model.specs.Walk.{Goal}
-use Rattle.walking.specs.Arrivals.{arrival-of, Arrives}
-use Rattle.walking.specs.declared.Arrival.the-variants.{Node, Refused}
+use Rattle.walk_told.specs.Arrivals.{arrival-of, Arrives}
+use Rattle.walk_told.specs.declared.Arrival.the-variants.{Node, Refused}
 use Rattle.exports.specs.Numbers.{answer-number, walking-number}
 
 pub node-told : {o : Outcome Goal} {n : ℕ} {goal : List ℕ} → Arrives o (Node n) goal → answer-number 2 n 0 ≡ walking-number o

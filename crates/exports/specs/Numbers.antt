@@ -10,7 +10,7 @@ use Rattle.model.specs.Answers.{number-of}
 unfoldable pub use Rattle.model.specs.Answers.{word-number, answer-number}
 use Rattle.model.specs.Serve.{Served, serve, made-fresh}
 use Rattle.model.specs.Walk.{Goal}
-use Rattle.walking.specs.Arrivals.{walking, goal-numbers}
+use Rattle.walk_told.specs.Arrivals.{walking, goal-numbers}
 use Rattle.fresh.specs.Prepared.{words-after}
 use Rattle.records.specs.Reading.{fields-of}
 use Rattle.records.specs.declared.Fields.{Fields}

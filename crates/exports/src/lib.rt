@@ -14,7 +14,8 @@ use runs::DONE;
 use runs::REFUSED;
 use runs::told;
 use runs::told_answer;
-use walking::Arrival;
+use walk_told::Arrival;
+use walk_told::GOAL_WORDS;
 
 fn put_fields(numbers: &mut [u32; 6], fields: Fields)
     requires { ⌜ Small fields ⌝ }
@@ -111,11 +112,11 @@ pub extern "C" fn tickbutton_walk(
     words: &[u32],
     path: &[u8],
     follow_last: bool,
-    goal: &mut [u32; 46],
+    goal: &mut [u32; GOAL_WORDS],
 ) -> u64
     ensures { λ r. ⌜ Walks-as (now (words .entry)) (now (path .entry)) «follow_last» r (now (goal .exit)) ⌝ }
 {
-    match walking::walk_to(words, path, follow_last, goal) {
+    match walk_told::walk_to(words, path, follow_last, goal) {
         Arrival::Node(node) => told(DONE, node as u64, 0),
         Arrival::Refused(number) => told(REFUSED, number as u64, 0),
     }

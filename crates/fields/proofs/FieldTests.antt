@@ -1,23 +1,23 @@
 -- The tests of a call's fields, one after the other, and the number that the first of them to apply refuses with. Assumes nothing.
-use mathlib.Core.Path.{_≡_, refl}
+use mathlib.Core.Path.{_≡_, refl, sym}
 use mathlib.Core.Bool.{Bool, true, false, not, _&&_, _||_}
 use mathlib.Core.List.{List, [], _∷_}
-use Prim.Native.Nat.{ℕ, _≤_, _<_}
+use Prim.Native.Nat.{ℕ}
 use native.Mathlib.Omega.{arith}
 use lib.Dec.{eqb}
 use lib.ListN.{length}
-use borrow.Author.Tests.{eq-eqb, ne-eqb, le-leb, lt-leb}
+use borrow.Author.Tests.{eq-eqb, ne-eqb}
 use Rattle.model.specs.Lists.{empty}
 use Rattle.model.specs.Refusals.{refused, granted, _when_, _>>_}
 use Rattle.model.specs.Paths.{valid-path, valid-target}
-use Rattle.model.specs.Records.{Call, calls, row-of, known, not-blank, not-valid, blank, fork-call, fields-broken, paths-broken, well-formed}
+use Rattle.model.specs.Records.{Call, row-of, known, not-blank, not-valid, blank, fork-call, fields-broken, paths-broken, well-formed}
 use Rattle.fields.specs.declared.Numbers.{Numbers}
 use Rattle.fields.specs.declared.table.Row.{Row}
 use Rattle.fields.specs.declared.table.Wanted.{Wanted}
 use Rattle.fields.specs.declared.table.Wanted.the-variants.{Blank, Path, Target}
-use Rattle.fields.specs.Rows.{coded-row, meant}
+use Rattle.fields.specs.Rows.{coded-row, is-call, meant}
 use Rattle.fields.specs.Given.{given, numbers-broken, fault-of}
-use Rattle.fields.proofs.TableRows.{path1-cell, path2-cell, argument-cell}
+use Rattle.fields.proofs.TableRows.{made-by-process, there-cell, argument-cell, path1-cell, path2-cell}
 
 -- THE NUMBERS
 
@@ -26,49 +26,41 @@ or-true true = refl
 or-true false = refl
 
 -- all but the zero bits
-abbrev zeros-apart : Numbers → Bool → Bool
-zeros-apart n wanted =
-    not (known (n .call)) || eqb (n .process) 0 || (eqb (n .call) fork-call && eqb (n .argument) 0)
-    || (not wanted && not (eqb (n .argument) 0))
+abbrev zeros-apart : Numbers → Row → Bool
+zeros-apart n row =
+    not (is-call (row .0)) || eqb (n .process) 0 || (eqb (n .call) fork-call && eqb (n .argument) 0)
+    || (not (row .1) && not (eqb (n .argument) 0))
 
-module _ (n : Numbers) (wanted : Bool) where
-  pub call-below : n .call < 1 → numbers-broken n wanted ≡ true
-  unfolding numbers-broken known
-  call-below h = rw (lt-leb 1 (n .call) h)
-
-  pub call-above : 1 ≤ n .call → 13 < n .call → numbers-broken n wanted ≡ true
-  unfolding numbers-broken known calls
-  call-above g h = rw (le-leb 1 (n .call) g, lt-leb (n .call) 13 h)
-
-  pub zeros-set : (n .zeros ≡ 0 → ⊥) → numbers-broken n wanted ≡ true
+module _ (n : Numbers) (row : Row) where
+  pub zeros-set : (n .zeros ≡ 0 → ⊥) → numbers-broken n row ≡ true
   unfolding numbers-broken
-  zeros-set z = rw (ne-eqb (n .zeros) 0 z) (or-true (zeros-apart n wanted))
+  zeros-set z = rw (ne-eqb (n .zeros) 0 z) (or-true (zeros-apart n row))
 
-  module _ (g : 1 ≤ n .call) (h : n .call ≤ 13) where
-    known-call : known (n .call) ≡ true
-    unfolding known calls
-    known-call = rw (le-leb 1 (n .call) g, le-leb (n .call) 13 h)
-
-    pub process-none : n .process ≡ 0 → numbers-broken n wanted ≡ true
+  module _ {found : Bool} (asked : found ≡ is-call (row .0)) where
+    pub no-such-call : not found ≡ true → numbers-broken n row ≡ true
     unfolding numbers-broken
-    process-none e = rw (known-call, eq-eqb (n .process) 0 e)
+    no-such-call e = rw (sym asked, e)
 
-    module _ (process : n .process ≡ 0 → ⊥) (zeros : n .zeros ≡ 0) where
+    pub process-none : not found ≡ false → n .process ≡ 0 → numbers-broken n row ≡ true
+    unfolding numbers-broken
+    process-none there e = rw (sym asked, there, eq-eqb (n .process) 0 e)
+
+    module _ (there : not found ≡ false) (process : n .process ≡ 0 → ⊥) (zeros : n .zeros ≡ 0) where
       -- without an argument only fork is wrong
-      pub no-argument : n .argument ≡ 0 → numbers-broken n wanted ≡ eqb (n .call) 2
+      pub no-argument : n .argument ≡ 0 → numbers-broken n row ≡ eqb (n .call) fork-call
       unfolding numbers-broken
       no-argument e =
-          rw (known-call, ne-eqb (n .process) 0 process, eq-eqb (n .zeros) 0 zeros, eq-eqb (n .argument) 0 e) (go (eqb (n .call) 2) wanted)
+          rw (sym asked, there, ne-eqb (n .process) 0 process, eq-eqb (n .zeros) 0 zeros, eq-eqb (n .argument) 0 e) (go (eqb (n .call) fork-call) (row .1))
         where
           go : (f w : Bool) → ((f && true) || (not w && false) || false) ≡ f
           go true w = refl
           go false true = refl
           go false false = refl
 
-      pub an-argument : (n .argument ≡ 0 → ⊥) → numbers-broken n wanted ≡ not wanted
+      pub an-argument : (n .argument ≡ 0 → ⊥) → numbers-broken n row ≡ not (row .1)
       unfolding numbers-broken
       an-argument e =
-          rw (known-call, ne-eqb (n .process) 0 process, eq-eqb (n .zeros) 0 zeros, ne-eqb (n .argument) 0 e) (go (eqb (n .call) 2) wanted)
+          rw (sym asked, there, ne-eqb (n .process) 0 process, eq-eqb (n .zeros) 0 zeros, ne-eqb (n .argument) 0 e) (go (eqb (n .call) fork-call) (row .1))
         where
           go : (f w : Bool) → ((f && false) || (not w && true) || false) ≡ not w
           go true true = refl
@@ -121,14 +113,19 @@ zeros-earlier false false false true = refl
 zeros-earlier false false false false = refl
 
 -- what is found by the row that the code looked up
-module _ (n : Numbers) (p q : List ℕ) (r : Row) (e : r ≡ coded-row (row-of (n .call))) (k : Bool) where
-  pub fields-by-row : k ≡ (numbers-broken n (r .1) || not-blank (meant (r .2)) p || not-blank (meant (r .3)) q)
-      → fields-broken (given n p q) ≡ k
-  unfolding fields-broken numbers-broken
+module _ (n : Numbers) (p q : List ℕ) (r : Row) (e : r ≡ coded-row (row-of (n .call))) {k : Bool} where
+  pub fields-by-row : k ≡ (numbers-broken n r || not-blank (meant (r .2)) p || not-blank (meant (r .3)) q) → fields-broken (given n p q) ≡ k
+  unfolding fields-broken numbers-broken known
   fields-by-row found =
-      rw (found, argument-cell r (n .call) e, path1-cell r (n .call) e, path2-cell r (n .call) e)
-      (zeros-earlier (zeros-apart n (row-of (n .call) .argument)) (not-blank (row-of (n .call) .path1) p) (not-blank (row-of (n .call) .path2) q)
-      (not (eqb (n .zeros) 0)))
+      rw (
+        found,
+        ← there-cell r (n .call) e,
+        made-by-process (n .call),
+        ← argument-cell r (n .call) e,
+        path1-cell r (n .call) e,
+        path2-cell r (n .call) e,
+      )
+      (zeros-earlier (zeros-apart n r) (not-blank (row-of (n .call) .path1) p) (not-blank (row-of (n .call) .path2) q) (not (eqb (n .zeros) 0)))
 
   pub paths-by-row : k ≡ (not-valid (meant (r .2)) p || not-valid (meant (r .3)) q) → paths-broken (given n p q) ≡ k
   unfolding paths-broken

@@ -6,8 +6,10 @@ use lib.Dec.{eqb}
 use lib.ListN.{length}
 use Rattle.model.specs.Refusals.{Outcome, refused, granted}
 use Rattle.model.specs.Words.{bits}
-use Rattle.model.specs.Records.{Call, known, fork-call}
+use Rattle.model.specs.Records.{Call, fork-call}
 use Rattle.fields.specs.declared.Numbers.{Numbers}
+use Rattle.fields.specs.declared.table.Row.{Row}
+use Rattle.fields.specs.Rows.{is-call}
 
 abbrev pub given : Numbers → List ℕ → List ℕ → Call
 given n path1 path2 =
@@ -26,10 +28,10 @@ numbers-in head =
     record { call = bits 51 5 head; process = bits 35 16 head; argument = bits 19 16 head; zeros = bits 0 3 head }
 
 -- Numbers given back, 2, but for what stands in a path's blank cell
-unfoldable pub numbers-broken : Numbers → Bool → Bool
-numbers-broken n wanted =
-    not (known (n .call)) || eqb (n .process) 0 || (eqb (n .call) fork-call && eqb (n .argument) 0)
-    || (not wanted && not (eqb (n .argument) 0))
+unfoldable pub numbers-broken : Numbers → Row → Bool
+numbers-broken n row =
+    not (is-call (row .0)) || eqb (n .process) 0 || (eqb (n .call) fork-call && eqb (n .argument) 0)
+    || (not (row .1) && not (eqb (n .argument) 0))
     || not (eqb (n .zeros) 0)
 
 -- 0 where nothing is refused

@@ -36,12 +36,11 @@ pub fn fault(numbers: Numbers, path1: &[u8], path2: &[u8]) -> u8
 
 // The numbers, or a path where the row has a blank.
 fn fields_broken(row: Row, numbers: Numbers, path1: &[u8], path2: &[u8]) -> bool
-    ensures { λ r. ⌜ r ≡ (numbers-broken numbers (row .1) || not-blank (meant (row .2)) (now (path1 .entry)) || not-blank (meant (row .3)) (now (path2 .entry))) ⌝ }
+    ensures { λ r. ⌜ r ≡ (numbers-broken numbers row || not-blank (meant (row .2)) (now (path1 .entry)) || not-blank (meant (row .3)) (now (path2 .entry))) ⌝ }
 {
-    let argument_wanted = row.1;
     let path1_wanted = row.2;
     let path2_wanted = row.3;
-    if numbers_broken(numbers, argument_wanted) {
+    if numbers_broken(numbers, row) {
         return true;
     }
     if filled_blank(path1_wanted, path1) {
@@ -61,14 +60,13 @@ fn paths_broken(row: Row, path1: &[u8], path2: &[u8]) -> bool
     not_valid(path2_wanted, path2)
 }
 
-// What is wrong in the numbers alone, where the call's row wants an argument or not.
-fn numbers_broken(numbers: Numbers, wanted: bool) -> bool
-    ensures { λ r. ⌜ r ≡ numbers-broken numbers wanted ⌝ }
+// What is wrong in the numbers alone, by the call's row.
+fn numbers_broken(numbers: Numbers, row: Row) -> bool
+    ensures { λ r. ⌜ r ≡ numbers-broken numbers row ⌝ }
 {
-    if numbers.call < 1 {
-        return true;
-    }
-    if table::CALLS < numbers.call {
+    let class = row.0;
+    let argument_wanted = row.1;
+    if !table::is_call(class) {
         return true;
     }
     if numbers.process == 0 {
@@ -80,7 +78,7 @@ fn numbers_broken(numbers: Numbers, wanted: bool) -> bool
     if numbers.argument == 0 {
         return numbers.call == table::FORK;
     }
-    !wanted
+    !argument_wanted
 }
 
 fn filled_blank(wanted: Wanted, path: &[u8]) -> bool

@@ -6,11 +6,6 @@ use Rattle.model.specs.Refusals.{Outcome, refused, granted}
 use Rattle.fresh.specs.declared.Prepared.{Prepared}
 use Rattle.fresh.specs.declared.Prepared.the-variants.{Ready, Refused}
 
--- the number of an answer: 0 for a success, else the number of the reason
-abbrev pub number-of : Prepared → ℕ
-number-of Ready = 0
-number-of (Refused n) = n
-
 -- the answer that an outcome is given
 abbrev pub answer-of : Outcome (List ℕ) → Prepared
 answer-of (refused n) = Refused n

@@ -12,8 +12,8 @@ use Rattle.model.specs.Tables as model-tables
 use Rattle.model.specs.Walk.{Goal}
 use Rattle.model.specs.Words.{bits, words, bytes, pack-name, unpack-name}
 use Rattle.laws.proofs.Each.{Each, none, one, each-append, each-map, each-replicate}
-use Rattle.invariants.proofs.Words as model-words
-use Rattle.invariants.proofs.Words.{Name-fits}
+use Rattle.laws.proofs.Words as model-words
+use Rattle.laws.proofs.Words.{Name-fits}
 use Rattle.rows.specs.Blocks.{Named, name-of, place-of}
 use Rattle.rows.proofs.Blocks.{name-back, block-named}
 use Rattle.goals.specs.declared.Place.{Place}

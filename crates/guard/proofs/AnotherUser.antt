@@ -7,15 +7,16 @@ use mathlib.Core.Option.{some}
 use Prim.Native.Nat.{ℕ}
 use borrow.Author.Tests.{eq-eqb, ne-eqb}
 use Rattle.model.specs.Paths.{Name}
-use Rattle.model.specs.Tables.{Place, Hold, Process, Tables, free-hold, is-directory, lookup, listed, user-of}
-use Rattle.model.specs.Holds.{root, foreign, on, inside, entry-held, inside-held, hold-by, drop-holds, preempted, overruled}
+use Rattle.model.specs.Tables.{Place, Hold, Process, Tables, free-hold, is-directory, lookup, listed, user-of, with-processes, with-holds}
+use Rattle.model.specs.Holds.{root, foreign, on, inside, entry-held, inside-held, hold-by, preempted, overruled}
 use Rattle.model.specs.Walk.{Goal}
-use Rattle.model.specs.Calls.{with-holds-and-processes, blocked, directory-blocked, after-overruling}
+use Rattle.model.specs.Calls.{blocked, directory-blocked}
 use Rattle.laws.proofs.Bools.{both, clash}
 use Rattle.laws.proofs.Places.{same-place-self}
 use Rattle.guard.proofs.Demand3.{Another-user}
 use Rattle.guard.proofs.Pins.{Has, Pinned, mine, above, Frame}
-use Rattle.guard.proofs.Edits.{has-shows, drops-none, alike}
+use Rattle.guard.proofs.Edits.{has-shows, alike}
+use Rattle.guard.proofs.Seen.{and-sees, on-sees, inside-sees, foreign-sees}
 
 -- process p is there
 pub record Present (p : ℕ) (t : Tables) : Type 0 where
@@ -43,7 +44,7 @@ same-frame p t =
 pub tree-frame : (p : ℕ) (t : Tables) (holds : List Hold) (processes : List Process) →
     listed processes p ≡ listed (t .processes) p → user-of processes p ≡ user-of (t .processes) p →
     ((role : ℕ) (q : Place) → q .directory ≢ 0 → Has (t .holds) (hold-by p role q) → Has holds (hold-by p role q)) →
-    Frame p t (with-holds-and-processes t holds processes)
+    Frame p t (with-processes (with-holds t holds) processes)
 tree-frame p t holds processes listing user kept =
     record { listing = listing; user = user; holds = kept; entry = λ q used pin. refl; node = λ q used pin. alike _ }
 
@@ -57,13 +58,13 @@ module _ (p q : ℕ) (t : Tables) (another : Of-another-user p q t) where
 
   -- THE OTHER USER DROPS NOTHING
 
-  pub preempts-none : (g : Goal) → drop-holds (preempted t q g) (t .holds) ≡ t .holds
+  pub preempts-none : (g : Goal) (h : Hold) → preempted t q g h ≡ false
   unfolding preempted
-  preempts-none g = drops-none (preempted t q g) (t .holds) (λ h. simp no-root)
+  preempts-none g h = simp no-root
 
-  pub overrules-none : (g : Goal) → after-overruling t q g ≡ t .holds
-  unfolding after-overruling overruled
-  overrules-none g = drops-none (overruled t q g) (t .holds) (λ h. simp no-root)
+  pub overrules-none : (g : Goal) (h : Hold) → overruled t q g h ≡ false
+  unfolding overruled
+  overrules-none g h = simp no-root
 
   -- AND p'S HOLDS ARE IN THE WAY
 
@@ -98,7 +99,7 @@ module _ (p q : ℕ) (t : Tables) (another : Of-another-user p q t) where
   unfolding entry-held on hold-by
   not-mine g at role used end way h =
       clash
-      (has-shows (hold-by p role at) (λ h. on (g .end) h && foreign t q h) (t .holds)
+      (has-shows (hold-by p role at) (λ h. on (g .end) h && foreign t q h) (and-sees (on-sees (g .end)) (foreign-sees t q)) (t .holds)
       (rw end (both (same-place-self at) (foreign-mine role at used))) h)
       way
 
@@ -108,7 +109,7 @@ module _ (p q : ℕ) (t : Tables) (another : Of-another-user p q t) where
   unfolding inside-held inside hold-by
   not-mine-inside d at role used there way h =
       clash
-      (has-shows (hold-by p role at) (λ h. inside d h && foreign t q h) (t .holds)
+      (has-shows (hold-by p role at) (λ h. inside d h && foreign t q h) (and-sees (inside-sees d) (foreign-sees t q)) (t .holds)
       (both (eq-eqb (at .directory) d there) (foreign-mine role at used)) h)
       way
 

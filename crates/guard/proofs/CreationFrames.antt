@@ -6,31 +6,32 @@ use mathlib.Core.Logic.{_≢_}
 use mathlib.Core.List.{List}
 use Prim.Native.Nat.{ℕ}
 use borrow.Author.Tests.{eqb-true}
-use Rattle.model.specs.Tables.{Place, Node, Hold, Tables, node-at, lookup}
+use Rattle.model.specs.Tables.{Place, Node, Tables, node-at, lookup}
 use Rattle.model.specs.Records.{Call}
-use Rattle.model.specs.Holds.{entry-held}
+use Rattle.model.specs.Holds.{entry-held, overruled, wanted}
 use Rattle.model.specs.Walk.{Goal}
 use Rattle.model.specs.Calls.{Change, absent, new-node, set-node, add-entry, one-more, with-entry}
 use Rattle.laws.proofs.Bools.{clash, not-false}
-use Rattle.invariants.proofs.Cases.{new-holds, Made, Linked}
+use Rattle.invariants.proofs.Cases.{Made, Linked}
 use Rattle.invariants.proofs.Walks.{directory-not-zero}
 use Rattle.guard.proofs.Pins.{Pinned, Alike, Frame}
-use Rattle.guard.proofs.Edits.{mine-add, lookup-put, alike, node-other, node-alike, new-node-free, new-node-not-zero}
+use Rattle.guard.proofs.Edits.{mine-taking, lookup-put, alike, node-other, node-alike, new-node-free, new-node-not-zero}
 use Rattle.guard.proofs.AnotherUser.{Of-another-user, overrules-none, way-clear, not-pinned}
 use Rattle.guard.proofs.Steady.{Steady, Landed, landed}
+use Rattle.guard.proofs.Seen.{overruled-sees}
 
 module _ (p q : ℕ) (t : Tables) (another : Of-another-user p q t) where
   -- a new entry at a place that is not pinned
-  created-frame : (g : Goal) (land : Landed t g) (n : ℕ) (x : Node) (new : List Hold) → (Pinned p t (land .place) → ⊥) →
+  created-frame : (g : Goal) (land : Landed t g) (n : ℕ) (x : Node) → (Pinned p t (land .place) → ⊥) →
       ((at : Place) → at .directory ≢ 0 → Pinned p t at →
       Alike (node-at (set-node n x (t .nodes)) (lookup (t .entries) at)) (node-at (t .nodes) (lookup (t .entries) at))) →
-      Frame p t (with-entry t q g n x new)
+      Frame p t (with-entry t q g n x)
   unfolding with-entry add-entry
-  created-frame g land n x new free nodes =
+  created-frame g land n x free nodes =
       record {
         listing = refl;
         user = refl;
-        holds = λ role at used h. rw (overrules-none p q t another g) (mine-add p new (t .holds) role at used h);
+        holds = λ role at used. mine-taking p t (wanted q g) (overruled t q g) (overruled-sees t q g) role at used (overrules-none p q t another g _);
         entry = λ at used pin. rw (land .end) (lookup-put (land .place) at n (t .entries) used (λ e. free (rw e at pin)));
         node = nodes;
       }
@@ -60,7 +61,7 @@ make-frame p t r c {kind = kind} {target = target} steady another e =
     let absence = nothing-there g (e .absence) in
     let land = landed t steady false (r .path1) g (e .walked) (λ end d. directory-not-zero (t .nodes) (g .node) d absence) in
     rw (e .gives .tables)
-    (created-frame p q t another g land n x (new-holds t q g)
+    (created-frame p q t another g land n x
     (absence-not-pinned p q t another g land absence (way-clear p q t another g (e .way)))
     (λ at used pin. rw (node-other n (lookup (t .entries) at) x (t .nodes) (new-node-other t steady at used)) (alike _)))
 
@@ -74,6 +75,6 @@ link-frame p t r c steady another e =
     let absence = nothing-there g (e .absence) in
     let land = landed t steady false (r .path1) g (e .walked) (λ end d. directory-not-zero (t .nodes) (g .node) d absence) in
     rw (e .gives .tables)
-    (created-frame p q t another g land n (one-more x) (new-holds t q g)
+    (created-frame p q t another g land n (one-more x)
     (absence-not-pinned p q t another g land absence (way-clear p q t another g (e .way)))
     (λ at used pin. node-alike n (lookup (t .entries) at) (one-more x) (t .nodes) (record { kind = refl; target = refl })))

@@ -7,8 +7,8 @@ use Rattle.model.specs.Refusals.{_when_, _>>_, _>>=_}
 use Rattle.model.specs.Tables.{fresh, is-directory}
 use Rattle.model.specs.Records.{Call}
 use Rattle.model.specs.Walk.{walk}
-use Rattle.model.specs.Holds.{wanted, lacking, no-room, add-holds}
-use Rattle.model.specs.Calls.{grant, unlisted, absent, blocked, after-overruling, without-entry, at-root, has-entries, step}
+use Rattle.model.specs.Holds.{wanted, lacking, no-room, overruled, taking}
+use Rattle.model.specs.Calls.{grant, unlisted, absent, blocked, without-entry, at-root, has-entries, step}
 use Rattle.model.specs.Serve.{computing}
 use Rattle.model.specs.Listing.{text}
 use Rattle.model.specs.declared.Answer.{Answer}
@@ -25,9 +25,8 @@ rmdir-by-entry t r = do
   12 when at-root g || not (is-directory (t .nodes) (g .node))
   13 when has-entries (t .entries) (g .node)
   14 when blocked t (r .process) g
-  let new = lacking (t .holds) (wanted (r .process) g)
-  16 when no-room t new
-  grant (Done (g .node)) (without-entry t g (add-holds new (after-overruling t (r .process) g)))
+  16 when no-room t (lacking (t .holds) (wanted (r .process) g))
+  grant (Done (g .node)) (without-entry t g (taking t (wanted (r .process) g) (overruled t (r .process) g)))
 
 -- 500 checks an absence, and 600 tries to remove the directory that it would be in and to make another
 unfoldable pub story : List Call

@@ -11,45 +11,41 @@ use lib.ListN.{getD, set}
 use lib.Seq.{getD-set-other}
 use borrow.Author.Tests.{eqb-true, ne-eqb}
 use Rattle.model.specs.Lists.{any, first, put, clear}
-use Rattle.model.specs.Tables.{Place, Entry, Node, Hold, Process, no-entry, no-node, no-hold, no-process, free-entry, free-node, free-hold, free-process, node-at, at, lookup, is-process, listed, user-of}
+use Rattle.model.specs.Tables.{Place, Entry, Node, Hold, Process, Tables, no-entry, no-node, no-hold, no-process, free-entry, free-node, free-hold, free-process, node-at, at, lookup, is-process, listed, user-of}
 use Rattle.model.specs.Sound.{same-hold}
-use Rattle.model.specs.Holds.{hold-by, add-holds, drop-holds}
+use Rattle.model.specs.Holds.{hold-by, add-holds, drop-holds, taking}
 use Rattle.model.specs.Calls.{add-process, drop-process, set-node, new-node}
 use Rattle.laws.proofs.Bools.{and-left, and-right, and-false, is-false, clash}
-use Rattle.laws.proofs.Places.{other-place, other-directory, same-place-equal, same-hold-equal}
-use Rattle.laws.proofs.Searches.{any-none, any-weaker, any-put-other, find-put-other, any-put-all-keeps, any-clear-other, find-clear-other, clear-none}
+use Rattle.laws.proofs.Places.{other-place, other-directory, same-place-equal, same-hold-one}
+use Rattle.laws.proofs.Searches.{any-none, any-weaker, any-put-other, find-put-other, any-put-all-keeps, any-clear-other, find-clear-other}
 use Rattle.guard.proofs.Pins.{Has, Alike}
+use Rattle.guard.proofs.Seen.{Sees-no-more}
 
 -- HOLDS
 
 -- what a hold in the rows passes, some row passes
-pub has-shows : (h : Hold) (test : Hold → Bool) (holds : List Hold) → test h ≡ true → Has holds h → any test holds ≡ true
-has-shows h test holds e = any-weaker (same-hold h) test (λ a f. ap test (sym (same-hold-equal h a f)) ∙ e) holds
-
--- a test that no hold passes drops none
-pub drops-none : (f : Hold → Bool) (holds : List Hold) → ((h : Hold) → f h ≡ false) → drop-holds f holds ≡ holds
-unfolding drop-holds
-drops-none f holds misses = clear-none f no-hold holds (any-none f misses holds)
+pub has-shows : (h : Hold) (test : Hold → Bool) → Sees-no-more test → (holds : List Hold) → test h ≡ true → Has holds h → any test holds ≡ true
+has-shows h test sees holds e = any-weaker (same-hold h) test (λ a f. sym (sees h a (same-hold-one h a f)) ∙ e) holds
 
 module _ (h : Hold) (used : h .place .directory ≢ 0) where
   pub free-other : (a : Hold) → free-hold a ≡ true → same-hold h a ≡ false
   unfolding free-hold
   free-other a e =
       is-false (same-hold h a)
-      (λ f. used (ap (λ (x : Hold). x .place .directory) (same-hold-equal h a f) ∙ eqb-true (a .place .directory) 0 e))
+      (λ f. used (ap (λ (q : Place). q .directory) (same-hold-one h a f .place) ∙ eqb-true (a .place .directory) 0 e))
 
   pub has-add : (new holds : List Hold) → Has holds h → Has (add-holds new holds) h
   unfolding add-holds
   has-add new holds e = any-put-all-keeps (same-hold h) free-hold free-other new holds e
 
   -- a hold that is not dropped
-  pub has-drop : (f : Hold → Bool) (holds : List Hold) → f h ≡ false → Has holds h → Has (drop-holds f holds) h
+  pub has-drop : (f : Hold → Bool) → Sees-no-more f → (holds : List Hold) → f h ≡ false → Has holds h → Has (drop-holds f holds) h
   unfolding drop-holds free-hold
-  has-drop f holds misses e =
+  has-drop f sees holds misses e =
       any-clear-other (same-hold h) f no-hold (free-other no-hold refl) holds
       (any-none (λ a. f a && same-hold h a)
       (λ a. is-false (f a && same-hold h a)
-      (λ g. clash (ap f (same-hold-equal h a (and-right (f a) _ g)) ∙ and-left (f a) _ g) misses))
+      (λ g. clash (sees h a (same-hold-one h a (and-right (f a) _ g)) ∙ and-left (f a) _ g) misses))
       holds)
       ∙ e
 
@@ -58,6 +54,13 @@ pub mine-add : (p : ℕ) (new holds : List Hold) (role : ℕ) (q : Place) → q 
     Has (add-holds new holds) (hold-by p role q)
 unfolding hold-by
 mine-add p new holds role q used = has-add (hold-by p role q) used new holds
+
+-- and whatever another process takes, after drops that miss it
+pub mine-taking : (p : ℕ) (t : Tables) (wants : List Hold) (gone : Hold → Bool) → Sees-no-more gone → (role : ℕ) (at : Place) → at .directory ≢ 0 →
+    gone (hold-by p role at) ≡ false → Has (t .holds) (hold-by p role at) → Has (taking t wants gone) (hold-by p role at)
+unfolding taking hold-by
+mine-taking p t wants gone sees role at used misses h =
+    has-add (hold-by p role at) used _ (drop-holds gone (t .holds)) (has-drop (hold-by p role at) used gone sees (t .holds) misses h)
 
 -- ENTRIES: those at another place than the changed one; a free row is at no place in a directory
 

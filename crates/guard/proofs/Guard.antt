@@ -18,11 +18,11 @@ use Rattle.model.specs.declared.Answer.{Answer}
 use Rattle.model.specs.declared.Answer.the-variants.{Held, Refused}
 use Rattle.laws.proofs.Each.{Each, none, one}
 use Rattle.laws.proofs.Pieces.{Byte}
-use Rattle.invariants.proofs.Accepted.{fields-right}
+use Rattle.invariants.proofs.Accepted.{fields-right, made-by-process}
 use Rattle.invariants.proofs.Cases.{looked}
 use Rattle.invariants.proofs.Kept.{sound-kept, run-keeps-sound, sound-since-fresh}
 use Rattle.invariants.proofs.Served.{Serves, refuses, grants, serves, words-in-order, granted-in-order}
-use Rattle.invariants.proofs.Words.{unpack-pack, sound-back}
+use Rattle.laws.proofs.Words.{unpack-pack, sound-back}
 use Rattle.guard.proofs.Demand3.{enter-call, check-call, use-call, request, Asks, By-another-user, its-process, an-enter, cut-off, All-by-another-user, node-of, owed, others-first, last-first, Undisturbed, Demand-3}
 use Rattle.guard.proofs.AnotherUser.{Of-another-user}
 use Rattle.guard.proofs.Steady.{Steady, sound-steady}
@@ -31,7 +31,7 @@ use Rattle.guard.proofs.Guarded.{Guarded, guarded-kept, looking-again, 
 use Rattle.guard.proofs.Served.{judged-sound, was-read, cut-off-changes-nothing}
 
 steady : (w : List ℕ) → sound w ≡ true → Steady (unpack w)
-steady w sound-w = sound-steady (unpack w) (words-in-order w sound-w .sound)
+steady w sound-w = sound-steady (unpack w) (words-in-order w sound-w)
 
 -- THE LAST CALL
 
@@ -144,7 +144,7 @@ held-guards p U node path w s sound-w bytes asks user told = go (serves w s)
     go (grants c is answer words) =
         let read-so = was-read s r asks in
         let steps = ap (step (unpack w)) (sym (read-so .same)) ∙ is .granted-step in
-        let numbered = fields-right r (read-so .right) .process in
+        let numbered = fields-right r (read-so .right) .process (made-by-process check-call) in
         let checked = looked true false (unpack w) r c steps in
         let guard = check-guards (unpack w) r c node (steady w sound-w) numbered checked (sym answer ∙ told) in
         (guard .0, rw (words, unpack-pack (granted-in-order w s bytes c is .fits), ← user) (guard .1), guard .2)

@@ -16,8 +16,8 @@ use Rattle.model.specs.Tables.{Place, Node, Hold, Tables, element-role, no-hold
 use Rattle.model.specs.Sound.{is-end}
 use Rattle.model.specs.Records.{Call}
 use Rattle.model.specs.Walk.{Goal, walk}
-use Rattle.model.specs.Holds.{root, foreign, on, end-held, hold-by, end-wanted, wanted, no-room, add-holds, drop-holds, preempted}
-use Rattle.model.specs.Calls.{Change, grant, absent, unlisted, hold-at, seen-or-held, look-at, looking}
+use Rattle.model.specs.Holds.{root, foreign, on, end-held, hold-by, end-wanted, wanted, no-room, add-holds, drop-holds, preempted, taking}
+use Rattle.model.specs.Calls.{Change, grant, absent, unlisted, hold-at, seen-or-held, look-at, looking, reaching}
 use Rattle.model.specs.declared.Answer.{Answer}
 use Rattle.model.specs.declared.Answer.the-variants.{Held, Seen}
 use Rattle.laws.proofs.Bools.{and-false, not-false}
@@ -31,6 +31,7 @@ use Rattle.guard.proofs.Edits.{has-drop}
 use Rattle.guard.proofs.AnotherUser.{Present}
 use Rattle.guard.proofs.Steady.{Steady, arrived, Any-name}
 use Rattle.guard.proofs.Taking.{Of, lacks-none, takes-all}
+use Rattle.guard.proofs.Seen.{preempted-sees}
 
 -- Process p, of user U, holds every place that the walk of the path goes by, and the walk ends at goal g.
 pub record Guarded (p U : ℕ) (path : List ℕ) (g : Goal) (t : Tables) : Type 0 where
@@ -96,7 +97,7 @@ module _ (p U : ℕ) (path : List ℕ) (g : Goal) (t : Tables) (steady : Steady 
       without-root false b c d e = absurd (false≢true e)
 
   held-again : hold-at t p g ≡ grant (Held (g .node)) t
-  unfolding hold-at no-room add-holds put-all _>>_
+  unfolding hold-at taking no-room add-holds put-all _>>_
   held-again = rw (lacks-none (t .holds) (guarded .holding), leb·suc-zero (count free-hold (t .holds)), preempts-nobody)
 
   -- the outcome of a check or use: `must-exist` where an absence is refused
@@ -110,7 +111,7 @@ module _ (p U : ℕ) (path : List ℕ) (g : Goal) (t : Tables) (steady : Steady 
 
   pub looking-again : (must-exist : Bool) (r : Call) → r .process ≡ p → r .path1 ≡ path →
       looking true must-exist t r ≡ ((10 when must-exist && absent g) >> grant (Held (g .node)) t)
-  unfolding looking _>>_ _>>=_
+  unfolding looking reaching _>>_ _>>=_
   looking-again must-exist r process same = rw (process, same, listed-here, guarded .walks) (look-again must-exist)
 
 -- A HELD CHECK SETS THE GUARD
@@ -143,7 +144,7 @@ not-foreign p t h e = rw e (go (free-hold h) (eq-eqb (user-of (t .processes) p) 
 own-kept : (p : ℕ) (t : Tables) (g : Goal) (h : Hold) → Of p h → Has (t .holds) h → Has (drop-holds (preempted t p g) (t .holds)) h
 unfolding preempted
 own-kept p t g h of has =
-    has-drop h (of .used) (preempted t p g) (t .holds)
+    has-drop h (of .used) (preempted t p g) (preempted-sees t p g) (t .holds)
     (and-false (root t p && is-end h && on (g .end) h) (foreign t p h) (λ e. not-foreign p t h (of .whose))) has
 
 room-left : (p : ℕ) (t : Tables) (g : Goal) (new : List Hold) → no-room t new ≡ false →
@@ -176,7 +177,7 @@ saw-guards p path t g c node steady present walks (held way room gives) answer =
             walks = walks;
             ours = ours;
             holding =
-                takes-all p (t .holds) (drop-holds (preempted t p g) (t .holds)) (own-kept p t g) ours (room-left p t g (new-holds t p g) room);
+                unfold taking in takes-all p (t .holds) (drop-holds (preempted t p g) (t .holds)) (own-kept p t g) ours (room-left p t g (new-holds t p g) room);
           }),
       held-node (c .answer) (g .node) node (gives .answer) answer,
     )

@@ -1,5 +1,6 @@
 pub mod Demand3
 pub mod Pins
+pub mod Seen
 pub mod Edits
 pub mod AnotherUser
 pub mod Steady

@@ -12,7 +12,7 @@ use Rattle.model.specs.Paths.{Name, names, absolute}
 use Rattle.model.specs.Tables.{Place, Node, Hold, Tables, end-role, element-role, node-at, is-directory, lookup, listed, user-of}
 use Rattle.model.specs.Sound.{same-hold}
 use Rattle.model.specs.Holds.{hold-by, end-wanted, wanted}
-use Rattle.model.specs.Walk.{Goal, Found, nothing, file, directory, link, found-node, found, here, after-link, start, follow, turn, walk-names, walk-within, walk}
+use Rattle.model.specs.Walk.{Goal, Found, nothing, file, directory, link, found-node, found, Trip, here, astray, past, after-link, start, follow, turn, trip-names, trip-within, trip, walk}
 use Rattle.laws.proofs.Each.{Each, each-head, each-tail}
 use Rattle.invariants.proofs.Walks.{directory-not-zero, found-directory}
 
@@ -50,17 +50,17 @@ abbrev First : ℕ → Tables → ℕ → List Name → Type 0
 First p t d [] = Unit {0}
 First p t d (name ∷ rest) = Pinned p t (record { directory = d; name = name })
 
-here-pinned : (t : Tables) (p : ℕ) (q : Place) (n : ℕ) → Guarding t p (here q n) → Pinned p t q
+here-pinned : (t : Tables) (p : ℕ) (q : Place) (n : ℕ) → Guarding t p (here q n .outcome) → Pinned p t q
 unfolding here wanted end-wanted
 here-pinned t p q n g = mine end-role (each-head g)
 
-link-pinned : (t : Tables) (p : ℕ) (q : Place) (w : Outcome Goal) → Guarding t p (after-link q w) → Pinned p t q
-unfolding after-link wanted
+link-pinned : (t : Tables) (p : ℕ) (q : Place) (w : Outcome Goal) → Guarding t p (past q w) → Pinned p t q
+unfolding past wanted
 link-pinned t p q (refused n) g = absurd g
 link-pinned t p q (granted goal) g = mine element-role (each-head g)
 
-link-guarding : (t : Tables) (p : ℕ) (q : Place) (w : Outcome Goal) → Guarding t p (after-link q w) → Guarding t p w
-unfolding after-link wanted
+link-guarding : (t : Tables) (p : ℕ) (q : Place) (w : Outcome Goal) → Guarding t p (past q w) → Guarding t p w
+unfolding past wanted
 link-guarding t p q (refused n) g = absurd g
 link-guarding t p q (granted goal) g = each-tail g
 
@@ -83,23 +83,23 @@ module _ (p : ℕ) (t u : Tables) (frame : Frame p t u) where
       let n = lookup (t .entries) q in
       rw (frame .entry q used pin) (found-alike n (node-at (u .nodes) n) (node-at (t .nodes) n) (frame .node q used pin))
 
-  module _ (jump jump-after : ℕ → List Name → Outcome Goal)
-      (same : (d : ℕ) (ns : List Name) → d ≢ 0 → Guarding t p (jump d ns) → jump-after d ns ≡ jump d ns) where
-    follow-same : (q : Place) (target : List ℕ) (rest : List Name) → q .directory ≢ 0 → Guarding t p (follow jump q target rest) →
+  module _ (jump jump-after : ℕ → List Name → Trip)
+      (same : (d : ℕ) (ns : List Name) → d ≢ 0 → Guarding t p (jump d ns .outcome) → jump-after d ns ≡ jump d ns) where
+    follow-same : (q : Place) (target : List ℕ) (rest : List Name) → q .directory ≢ 0 → Guarding t p (follow jump q target rest .outcome) →
         (follow jump-after q target rest ≡ follow jump q target rest) × Pinned p t q
-    unfolding follow
+    unfolding follow after-link
     follow-same q target rest used g =
         let d = start (q .directory) target in
         let w = jump d (names target ++ rest) in (
-          ap (after-link q) (same d (names target ++ rest) (start-not-zero (q .directory) target used) (link-guarding t p q w g)),
-          link-pinned t p q w g,
+          ap (after-link q) (same d (names target ++ rest) (start-not-zero (q .directory) target used) (link-guarding t p q (w .outcome) g)),
+          link-pinned t p q (w .outcome) g,
         )
 
-    turn-same : (last : Bool) (on on-after : ℕ → Outcome Goal) (q : Place) (f : Found) (rest : List Name) → q .directory ≢ 0 →
+    turn-same : (last : Bool) (on on-after : ℕ → Trip) (q : Place) (f : Found) (rest : List Name) → q .directory ≢ 0 →
         found (t .entries) (t .nodes) q ≡ f →
-        ((n : ℕ) → n ≢ 0 → Guarding t p (on n) → (on-after n ≡ on n) × First p t n rest) → Guarding t p (turn jump on last q f rest) →
+        ((n : ℕ) → n ≢ 0 → Guarding t p (on n .outcome) → (on-after n ≡ on n) × First p t n rest) → Guarding t p (turn jump on last q f rest .outcome) →
         (turn jump-after on-after last q f rest ≡ turn jump on last q f rest) × Pinned p t q
-    unfolding turn
+    unfolding turn astray
     turn-same last on on-after q nothing [] used e h g = (refl, here-pinned t p q 0 g)
     turn-same last on on-after q nothing (next ∷ rest) used e h g = absurd g
     turn-same last on on-after q (file n) [] used e h g = (refl, here-pinned t p q n g)
@@ -114,26 +114,26 @@ module _ (p : ℕ) (t u : Tables) (frame : Frame p t u) where
     turn-same true on on-after q (link n target) (next ∷ rest) used e h g = follow-same q target (next ∷ rest) used g
     turn-same false on on-after q (link n target) (next ∷ rest) used e h g = follow-same q target (next ∷ rest) used g
 
-    names-same : (last : Bool) (d : ℕ) (ns : List Name) → d ≢ 0 → Guarding t p (walk-names (t .entries) (t .nodes) last jump d ns) →
-        (walk-names (u .entries) (u .nodes) last jump-after d ns ≡ walk-names (t .entries) (t .nodes) last jump d ns) × First p t d ns
-    unfolding walk-names
+    names-same : (last : Bool) (d : ℕ) (ns : List Name) → d ≢ 0 → Guarding t p (trip-names (found (t .entries) (t .nodes)) last jump d ns .outcome) →
+        (trip-names (found (u .entries) (u .nodes)) last jump-after d ns ≡ trip-names (found (t .entries) (t .nodes)) last jump d ns) × First p t d ns
+    unfolding trip-names
     names-same last d [] used g = (refl, tt)
     names-same last d (name ∷ rest) used g =
         let q : Place = record { directory = d; name = name } in
         let turned =
-        turn-same last (λ n. walk-names (t .entries) (t .nodes) last jump n rest)
-        (λ n. walk-names (u .entries) (u .nodes) last jump-after n rest) q (found (t .entries) (t .nodes) q) rest used refl
+        turn-same last (λ n. trip-names (found (t .entries) (t .nodes)) last jump n rest)
+        (λ n. trip-names (found (u .entries) (u .nodes)) last jump-after n rest) q (found (t .entries) (t .nodes) q) rest used refl
         (λ n f. names-same last n rest f) g in
         (rw (found-same q used (turned .1)) (turned .0), turned .1)
 
-  within-same : (last : Bool) (k d : ℕ) (ns : List Name) → d ≢ 0 → Guarding t p (walk-within (t .entries) (t .nodes) last k d ns) →
-      walk-within (u .entries) (u .nodes) last k d ns ≡ walk-within (t .entries) (t .nodes) last k d ns
-  unfolding walk-within
-  within-same last zero d ns used g = names-same (λ d rest. refused 7) (λ d rest. refused 7) (λ d rest f. absurd) last d ns used g .0
+  within-same : (last : Bool) (k d : ℕ) (ns : List Name) → d ≢ 0 → Guarding t p (trip-within (found (t .entries) (t .nodes)) last k d ns .outcome) →
+      trip-within (found (u .entries) (u .nodes)) last k d ns ≡ trip-within (found (t .entries) (t .nodes)) last k d ns
+  unfolding trip-within astray
+  within-same last zero d ns used g = names-same (λ d rest. astray 7) (λ d rest. astray 7) (λ d rest f. absurd) last d ns used g .0
   within-same last (suc k) d ns used g =
-      names-same (walk-within (t .entries) (t .nodes) last k) (walk-within (u .entries) (u .nodes) last k) (within-same last k) last d ns used g .0
+      names-same (trip-within (found (t .entries) (t .nodes)) last k) (trip-within (found (u .entries) (u .nodes)) last k) (within-same last k) last d ns used g .0
 
   pub walk-same : (last : Bool) (path : List ℕ) → Guarding t p (walk (t .entries) (t .nodes) last path) →
       walk (u .entries) (u .nodes) last path ≡ walk (t .entries) (t .nodes) last path
-  unfolding walk
-  walk-same last path g = within-same last 8 1 (names path) (omega arith) g
+  unfolding walk trip
+  walk-same last path g = ap (λ (x : Trip). x .outcome) (within-same last 8 1 (names path) (omega arith) g)

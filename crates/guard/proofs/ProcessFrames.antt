@@ -14,6 +14,7 @@ use Rattle.invariants.proofs.Cases.{Entered, Forked, Execed, Exited}
 use Rattle.guard.proofs.Pins.{Has, Frame}
 use Rattle.guard.proofs.Edits.{mine-add, has-drop, listed-add, user-add, listed-drop, user-drop}
 use Rattle.guard.proofs.AnotherUser.{Present, Of-another-user, apart, tree-frame}
+use Rattle.guard.proofs.Seen.{of-process-sees}
 
 module _ (p : ℕ) (t : Tables) (r : Call) (c : Change) where
   unlisted-other : (q : ℕ) → Present p t → listed (t .processes) q ≡ false → q ≢ p
@@ -43,7 +44,7 @@ module _ (p : ℕ) (t : Tables) (r : Call) (c : Change) where
       Has (drop-holds (of-process (r .process)) (t .holds)) (hold-by p role q)
   unfolding of-process hold-by
   keeps-mine another role q used h =
-      has-drop (hold-by p role q) used (of-process (r .process)) (t .holds)
+      has-drop (hold-by p role q) used (of-process (r .process)) (of-process-sees (r .process)) (t .holds)
       (ne-eqb p (r .process) (λ e. apart p (r .process) t another (sym e))) h
 
   pub exec-frame : Of-another-user p (r .process) t → Execed t r c → Frame p t (c .tables)

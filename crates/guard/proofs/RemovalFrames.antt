@@ -11,18 +11,19 @@ use borrow.Author.Tests.{eqb-true, eqb-false, eq-eqb, ne-eqb}
 use Rattle.model.specs.Paths.{Name}
 use Rattle.model.specs.Tables.{Place, Entry, Node, Hold, Tables, node-at, lookup}
 use Rattle.model.specs.Records.{Call}
-use Rattle.model.specs.Holds.{inside, inside-held, hold-by, add-holds, drop-holds}
+use Rattle.model.specs.Holds.{inside, inside-held, hold-by, overruled, emptied, taking, wanted}
 use Rattle.model.specs.Walk.{Goal}
 use Rattle.model.specs.Calls.{Change, absent, set-node, drop-entry, one-less, without-entry, at-root, has-entries}
-use Rattle.laws.proofs.Bools.{clash}
+use Rattle.laws.proofs.Bools.{clash, neither}
 use Rattle.laws.proofs.Members.{in-any}
-use Rattle.invariants.proofs.Cases.{new-holds, Unlinked, Rmdired}
+use Rattle.invariants.proofs.Cases.{Unlinked, Rmdired}
 use Rattle.invariants.proofs.Lookups.{at-place, entry-at}
 use Rattle.invariants.proofs.Walks.{directory-not-zero}
 use Rattle.guard.proofs.Pins.{Has, Pinned, mine, above, Alike, Frame}
-use Rattle.guard.proofs.Edits.{mine-add, has-drop, lookup-clear, alike, node-other, node-alike}
+use Rattle.guard.proofs.Edits.{mine-taking, lookup-clear, alike, node-other, node-alike}
 use Rattle.guard.proofs.AnotherUser.{Of-another-user, overrules-none, way-clear, directory-way-clear, not-mine-inside, not-pinned}
 use Rattle.guard.proofs.Steady.{Steady, Landed, landed}
+use Rattle.guard.proofs.Seen.{overruled-sees, emptied-sees}
 
 -- a node with another entry left stays
 one-less-alike : (x : Node) → x .count ≢ 1 → Alike (one-less x) x
@@ -74,11 +75,11 @@ unlink-frame p t r c steady another e =
     let q = r .process in
     let g = e .goal in
     let land = landed t steady false (r .path1) g (e .walked) (λ end d. clash d (e .no-directory)) in
-    rw (e .gives .tables, overrules-none p q t another g)
-    (removed-frame p t g (add-holds (new-holds t q g) (t .holds)) steady land (something-there g (e .there))
+    rw (e .gives .tables)
+    (removed-frame p t g (taking t (wanted q g) (overruled t q g)) steady land (something-there g (e .there))
     (not-pinned p q t another g (land .place) (land .used) (land .end) (way-clear p q t another g (e .way))
     (λ d name pin. clash (rw (land .there) at d) (e .no-directory)))
-    (mine-add p (new-holds t q g) (t .holds)))
+    (λ role at used. mine-taking p t (wanted q g) (overruled t q g) (overruled-sees t q g) role at used (overrules-none p q t another g _)))
 
 -- RMDIR
 
@@ -99,13 +100,13 @@ inside-not-pinned p q d t another used empty way name (above below dir pin) =
     let at : Place = record { directory = d; name = name } in
     clash (entry-inside (t .entries) at (directory-not-zero (t .nodes) (lookup (t .entries) at) dir)) empty
 
--- the holds that another user drops inside are not p's
-keeps-inside : (p q d : ℕ) (t : Tables) → Of-another-user p q t → inside-held t q d ≡ false → (role : ℕ) (at : Place) → at .directory ≢ 0 →
-    Has (t .holds) (hold-by p role at) → Has (drop-holds (inside d) (t .holds)) (hold-by p role at)
-unfolding inside hold-by
-keeps-inside p q d t another way role at used h =
-    has-drop (hold-by p role at) used (inside d) (t .holds)
-    (ne-eqb (at .directory) d (λ e. not-mine-inside p q t another d at role used e way h)) h
+-- the holds that another user drops are not p's
+empties-none : (p q : ℕ) (t : Tables) (g : Goal) → Of-another-user p q t → inside-held t q (g .node) ≡ false → (role : ℕ) (at : Place) →
+    at .directory ≢ 0 → Has (t .holds) (hold-by p role at) → emptied t q g (hold-by p role at) ≡ false
+unfolding emptied inside hold-by
+empties-none p q t g another way role at used h =
+    neither (overrules-none p q t another g _)
+    (ne-eqb (at .directory) (g .node) (λ e. not-mine-inside p q t another (g .node) at role used e way h))
 
 ends-at-root : (g : Goal) → g .end ≡ none → at-root g ≡ true
 unfolding at-root
@@ -117,11 +118,9 @@ rmdir-frame p t r c steady another e =
     let g = e .goal in
     let there = something-there g (e .there) in
     let way = directory-way-clear p q t another g (e .way) in
-    let new = new-holds t q g in
     let land = landed t steady false (r .path1) g (e .walked) (λ end d. clash (ends-at-root g end) (e .not-root)) in
-    rw (e .gives .tables, overrules-none p q t another g)
-    (removed-frame p t g (add-holds new (drop-holds (inside (g .node)) (t .holds))) steady land there
+    rw (e .gives .tables)
+    (removed-frame p t g (taking t (wanted q g) (emptied t q g)) steady land there
     (not-pinned p q t another g (land .place) (land .used) (land .end) (way .0)
     (λ d. rw (land .there) (inside-not-pinned p q (g .node) t another there (e .empty) (way .1))))
-    (λ role at used h. mine-add p new (drop-holds (inside (g .node)) (t .holds)) role at used
-    (keeps-inside p q (g .node) t another (way .1) role at used h)))
+    (λ role at used h. mine-taking p t (wanted q g) (emptied t q g) (emptied-sees t q g) role at used (empties-none p q t g another (way .1) role at used h) h))

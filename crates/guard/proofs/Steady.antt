@@ -18,8 +18,9 @@ use Rattle.laws.proofs.Bools.{and-left, and-right, not-true, is-false}
 use Rattle.laws.proofs.Counts.{count-single}
 use Rattle.laws.proofs.Each.{Each, none, one}
 use Rattle.laws.proofs.Members.{_∈_, any-in, none-in}
-use Rattle.laws.proofs.Places.{same-place-equal, same-hold-equal}
+use Rattle.laws.proofs.Places.{same-place-equal, same-hold-one}
 use Rattle.invariants.proofs.Lookups.{at-place, entry-at, lookup-used}
+use Rattle.invariants.proofs.Order.{In-order}
 use Rattle.invariants.proofs.Soundness.{Sound}
 use Rattle.invariants.proofs.Walks.{directory-not-zero, Stopped, Arrived, walk-arrives}
 use Rattle.guard.proofs.Pins.{Has}
@@ -71,7 +72,10 @@ landed t steady last path g e not-top = go (g .end) refl (arrived t steady last 
 
 -- SOUND TABLES ARE STEADY
 
-module _ (t : Tables) (sound : Sound t) where
+module _ (t : Tables) (order : In-order t) where
+  sound : Sound t
+  sound = order .sound
+
   sound-single : (a b : Place) → a .directory ≢ 0 → b .directory ≢ 0 → lookup (t .entries) a ≢ 0 →
       lookup (t .entries) a ≡ lookup (t .entries) b → node-at (t .nodes) (lookup (t .entries) a) .count ≡ 1 → a ≡ b
   unfolding leading-to
@@ -91,10 +95,10 @@ module _ (t : Tables) (sound : Sound t) where
   unfolding hold-by foreign is-end
   two-users p q has h among ending place other =
       let found = any-in (same-hold (hold-by p end-role q)) (t .holds) has in
-      let same = same-hold-equal (hold-by p end-role q) (found .0) (found .2) in
+      let one = same-hold-one (hold-by p end-role q) (found .0) (found .2) in
       let free = not-true (free-hold h) (and-left (not (free-hold h)) _ other) in
-      let users = sound .holding .one-user h (found .0) among (found .1) free ending (rw (← same) refl) (place ∙ ap (λ (k : Hold). k .place) same) in
-      let mine = users ∙ ap (λ (k : Hold). user-of (t .processes) (k .process)) (sym same) in
+      let users = sound .holding .one-user h (found .0) among (found .1) free ending (rw (← one .role) refl) (place ∙ one .place) in
+      let mine = users ∙ ap (user-of (t .processes)) (sym (one .process)) in
       eqb-false (user-of (t .processes) (h .process)) (user-of (t .processes) p) (not-true _ (and-right (not (free-hold h)) _ other)) mine
 
   sound-ends : (p : ℕ) (q : Place) → Has (t .holds) (hold-by p end-role q) →

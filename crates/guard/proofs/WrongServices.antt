@@ -1,13 +1,13 @@
--- Services that a weaker promise would let through, and that the promise of `serve` shuts out: each differs from the model's `serve` on some
--- words and some record. Assumes nothing.
-use mathlib.Core.Path.{_≡_, refl, ap}
+-- Services that a weaker promise would let through, and that the promise of `serve` shuts out, some of them as whole classes: each differs from
+-- the model's `serve` on some words and some record. Assumes nothing.
+use mathlib.Core.Path.{_≡_, refl, sym, ap, _∙_}
 use mathlib.Core.Bool.{true, false, not, true≢false}
 use mathlib.Core.List.{List, [], _∷_}
 use Prim.Native.Nat.{ℕ, suc}
 use native.Mathlib.Omega.{arith}
 use Rattle.model.specs.Refusals.{_when_, _>>_, _>>=_}
 use Rattle.model.specs.Lists.{any}
-use Rattle.model.specs.Tables.{end-role, node-at, listed}
+use Rattle.model.specs.Tables.{end-role, with-nodes, node-at, listed}
 use Rattle.model.specs.Sound.{same-hold, sound-with}
 use Rattle.model.specs.Words.{unpack}
 use Rattle.model.specs.Records.{fields, short, taken, well-formed, write}
@@ -45,39 +45,45 @@ service-by-step w s = refl
 unfoldable pub entered : List ℕ
 entered = write (enters 20 500)
 
--- IT REFUSES ALL
+-- IT REFUSES ALL, whatever numbers it gives, bytes it takes and words it leaves
 
-unfoldable pub refuses-all : ℕ → Service
-refuses-all n w s = record { answer = Refused n; taken = taken s; words = w }
+abbrev pub Refuses-all : Service → Type 0
+Refuses-all service = (w s : List ℕ) → (n : ℕ) × (service w s .answer ≡ Refused n)
 
 refused-not-done : (n m : ℕ) → _≡_ {A = Answer} (Refused n) (Done m) → ⊥
 refused-not-done n m e = let z : _≡_ {A = ℕ} 0 1 = cc in omega arith
 
-pub refuses-all-breaks : (n : ℕ) → Promised (refuses-all n) → ⊥
-unfolding computing text call refuses-all entered
-refuses-all-breaks n meets = refused-not-done n 20 (ap (λ (v : Served). v .answer) (meets fresh-words entered))
+-- an enter of a new process is to be answered done
+entered-done : (service : Service) → Promised service → service fresh-words entered .answer ≡ Done 20
+unfolding computing text call entered
+entered-done service meets = ap (λ (v : Served). v .answer) (meets fresh-words entered)
 
--- IT ALWAYS SAYS HELD 0
+pub refuses-all-breaks : (service : Service) → Refuses-all service → Promised service → ⊥
+refuses-all-breaks service refuses meets =
+    let refused = refuses fresh-words entered in refused-not-done (refused .0) 20 (sym (refused .1) ∙ entered-done service meets)
 
-unfoldable pub always-held : Service
-always-held w s = record { answer = Held 0; taken = taken s; words = serve w s .words }
+-- IT ALWAYS SAYS HELD 0, whatever bytes it takes and words it leaves
+
+abbrev pub Always-held : Service → Type 0
+Always-held service = (w s : List ℕ) → service w s .answer ≡ Held 0
 
 held-not-done : (n m : ℕ) → _≡_ {A = Answer} (Held n) (Done m) → ⊥
 held-not-done n m e = let z : _≡_ {A = ℕ} 0 1 = cc in omega arith
 
-pub always-held-breaks : Promised always-held → ⊥
-unfolding computing text call always-held entered
-always-held-breaks meets = held-not-done 0 20 (ap (λ (v : Served). v .answer) (meets fresh-words entered))
+pub always-held-breaks : (service : Service) → Always-held service → Promised service → ⊥
+always-held-breaks service held meets = held-not-done 0 20 (sym (held fresh-words entered) ∙ entered-done service meets)
 
--- IT LEAVES THE TABLES UNTOUCHED
+-- IT LEAVES THE TABLES UNTOUCHED, whatever it answers and takes
 
-unfoldable pub leaves-tables : Service
-leaves-tables w s = record { answer = serve w s .answer; taken = taken s; words = w }
+abbrev pub Leaves-tables : Service → Type 0
+Leaves-tables service = (w s : List ℕ) → service w s .words ≡ w
 
-pub leaves-tables-breaks : Promised leaves-tables → ⊥
-unfolding computing text call leaves-tables entered
-leaves-tables-breaks meets =
-    true≢false (ap (λ (v : Served). not (listed (unpack (v .words) .processes) 20)) (meets fresh-words entered))
+pub leaves-tables-breaks : (service : Service) → Leaves-tables service → Promised service → ⊥
+unfolding computing text call entered
+leaves-tables-breaks service leaves meets =
+    true≢false
+    (ap (λ (w : List ℕ). not (listed (unpack w .processes) 20))
+    (sym (leaves fresh-words entered) ∙ ap (λ (v : Served). v .words) (meets fresh-words entered)))
 
 -- IT TAKES HOLDS AT THE FIRST CHECK ONLY
 
@@ -118,12 +124,7 @@ invents-taken-breaks meets =
 unfoldable pub create-counting : Rule
 create-counting t r =
     create t r >>= (λ (c : Change). grant (c .answer)
-    (record {
-      entries = c .tables .entries;
-      nodes = set-node (new-node (t .nodes)) (one-more (node-at (c .tables .nodes) (new-node (t .nodes)))) (c .tables .nodes);
-      holds = c .tables .holds;
-      processes = c .tables .processes;
-    }))
+    (with-nodes (c .tables) (set-node (new-node (t .nodes)) (one-more (node-at (c .tables .nodes) (new-node (t .nodes)))) (c .tables .nodes))))
 
 unfoldable pub invents-count : Service
 invents-count = service-by (but-for 8 create-counting step)

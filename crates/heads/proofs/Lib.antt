@@ -1,1 +1,2 @@
 pub mod HeadBytes
+pub mod Determined

@@ -5,7 +5,7 @@ use mathlib.Core.List.{List}
 use Prim.Native.Nat.{ℕ, suc, _-_, _≤_, _<_}
 use native.Mathlib.Omega.{arith}
 use borrow.Author.Tests.{eq-eqb, ne-eqb}
-use Rattle.model.specs.Tables.{free-hold}
+use Rattle.model.specs.Tables.{free-hold, hold-rows}
 use Rattle.laws.proofs.Bools.{not-false, is-false}
 use Rattle.rows.specs.Stands.{hold-row}
 use Rattle.index.specs.Buckets.{last-below}
@@ -14,11 +14,11 @@ use Rattle.hold_rules.specs.Used.{hold-used, used-rows}
 
 -- the rows from i on are free
 pub record Free-from (w : List ℕ) (i : ℕ) : Type 0 where
-  pub inside : i ≤ 256
+  pub inside : i ≤ hold-rows
   pub same : last-below (hold-used w) i ≡ used-rows w
 
 module _ (w : List ℕ) where
-  pub free-from-starts : Free-from w 256
+  pub free-from-starts : Free-from w hold-rows
   free-from-starts = record { inside = omega arith; same = refl }
 
   module _ {i : ℕ} (g : Free-from w i) (z : i ≡ 0 → ⊥) {d : ℕ} (e : d ≡ hold-row w (i - 1) .place .directory) where
@@ -45,9 +45,11 @@ module _ (w : List ℕ) where
   none-used g z = sym (last-of-none (hold-used w)) ∙ ap (last-below (hold-used w)) (sym z) ∙ g .same
 
   module _ {rows : ℕ} (e : rows ≡ used-rows w) where
-    pub used-inside : rows ≤ 256
-    used-inside = omega (arith, last-within (hold-used w) 256)
+    pub used-inside : rows ≤ hold-rows
+    used-inside = omega (arith, last-within (hold-used w) hold-rows)
 
-    pub free-behind : (k : ℕ) → rows ≤ k → k < 256 → free-hold (hold-row w k) ≡ true
+    pub free-behind : (k : ℕ) → rows ≤ k → k < hold-rows → free-hold (hold-row w k) ≡ true
     free-behind k h l =
-        not-false (free-hold (hold-row w k)) (is-false (hold-used w k) (λ t. let c = last-covers (hold-used w) 256 k l t in let x : ⊥ = omega arith in x))
+        not-false (free-hold (hold-row w k)) (is-false (hold-used w k) (λ t.
+        let c = last-covers (hold-used w) hold-rows k l t in
+        let x : ⊥ = omega arith in x))

@@ -1,3 +1,4 @@
+pub mod Determined
 pub mod Dropping
 pub mod Rooted
 pub mod Tests

@@ -3,14 +3,16 @@ use mathlib.Core.Path.{_≡_, refl, sym, ap, _∙_}
 use mathlib.Core.Bool.{Bool, true, false, not, _||_}
 use mathlib.Core.List.{List}
 use mathlib.Core.Option.{some}
-use Prim.Native.Nat.{ℕ}
+use Prim.Native.Nat.{ℕ, _+_, _<_}
 use borrow.Author.Tests.{eq-eqb, ne-eqb}
 use lib.Dec.{eqb}
-use Rattle.model.specs.Lists.{same}
+use lib.ListN.{length, getD, drop}
+use Rattle.model.specs.Lists.{any, same}
 use Rattle.model.specs.Tables.{Hold, Process, free-hold, same-place, user-of}
 use Rattle.model.specs.Sound.{is-end}
 use Rattle.model.specs.Holds.{on, inside, of-process}
 use Rattle.laws.proofs.Bools.{and-false, clash, neither-right, or-left, stopped}
+use Rattle.laws.proofs.Loops.{any-found, any-onward}
 use Rattle.rows.specs.Blocks.{place-of}
 use Rattle.goals.specs.declared.Place.{Place}
 use Rattle.goals.specs.Goals.{place-at}
@@ -53,13 +55,17 @@ module _ (h : Hold) where
   pub elsewhere-asked : (d : ℕ) {k : ℕ} → (d ≡ 0 → ⊥) → k ≡ h .place .directory → eqb k d ≡ (eqb d 0 || eqb (h .place .directory) d)
   elsewhere-asked d n e = ap (λ x. eqb x d) e ∙ sym (ap (λ b. b || eqb (h .place .directory) d) (ne-eqb d 0 n))
 
+  elsewhere-on : (q : Place) → (eqb (q .directory) 0 || eqb (h .place .directory) (q .directory)) ≡ false → false ≡ on (some (place-at q)) h
+  unfolding on same-place place-at place-of
+  elsewhere-on q e =
+      stopped (same (h .place .name) (place-at q .name)) (neither-right (eqb (q .directory) 0) (eqb (h .place .directory) (q .directory)) e)
+
   -- what stands in another directory than the scope's is not covered by it
   elsewhere : (scope : Scope) → (eqb (scope-directory scope) 0 || eqb (h .place .directory) (scope-directory scope)) ≡ false → false ≡ covers scope h
-  unfolding covers scope-directory on inside same-place place-at place-of
+  unfolding covers scope-directory inside
   elsewhere Nothing e = refl
-  elsewhere (EndAt q) e =
-      sym (and-false (is-end h) (on (some (place-at q)) h) (λ _. sym (stopped (same (h .place .name) (place-at q .name)) (neither-right (eqb (q .directory) 0) (eqb (h .place .directory) (q .directory)) e))))
-  elsewhere (EntryAt q) e = stopped (same (h .place .name) (place-at q .name)) (neither-right (eqb (q .directory) 0) (eqb (h .place .directory) (q .directory)) e)
+  elsewhere (EndAt q) e = sym (and-false (is-end h) (on (some (place-at q)) h) (λ _. sym (elsewhere-on q e)))
+  elsewhere (EntryAt q) e = elsewhere-on q e
   elsewhere (Inside d) e = sym (neither-right (eqb d 0) (eqb (h .place .directory) d) e)
   elsewhere (Of p) e = clash refl e
 
@@ -76,3 +82,11 @@ module _ (h : Hold) where
     pub way-elsewhere : {a : Bool} {d : ℕ} → d ≡ scope-directory scope → a ≡ (eqb d 0 || eqb (h .place .directory) d) → a ≡ false
         → false ≡ in-the-way processes scope user h
     way-elsewhere e told left = way-free (elsewhere scope (ap (λ x. eqb x 0 || eqb (h .place .directory) x) (sym e) ∙ sym told ∙ left)) refl
+
+-- a row that a loop looked at, as the test was asked there
+module _ {A : Type 0} (f : A → Bool) (d : A) (xs : List A) (i : ℕ) (h : i < length xs) {k v : Bool} (asked : k ≡ f (getD xs i d)) where
+  pub any-met : k ≡ true → any f (drop i xs) ≡ v → true ≡ v
+  any-met e = any-found f d xs i h (sym asked ∙ e)
+
+  pub any-missed : k ≡ false → any f (drop i xs) ≡ v → any f (drop (i + 1) xs) ≡ v
+  any-missed e = any-onward f d xs i h (sym asked ∙ e)

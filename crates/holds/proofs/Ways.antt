@@ -4,17 +4,19 @@ use mathlib.Core.Bool.{Bool, true, false, not, _&&_}
 use mathlib.Core.Option.{none, some}
 use mathlib.Core.List.{List}
 use Prim.Native.Nat.{ℕ}
-use borrow.Author.Tests.{eq-eqb, ne-eqb}
 use lib.Dec.{eqb}
 use Rattle.model.specs.Lists.{any}
-use Rattle.model.specs.Tables.{Tables, Hold, no-hold, free-hold, user-of}
+use Rattle.model.specs.Tables.{Tables, Hold, no-hold, free-hold, user-of, with-holds}
 use Rattle.model.specs.Sound.{is-end}
 use Rattle.model.specs.Words.{unpack}
 use Rattle.model.specs.Walk.{Goal}
 use Rattle.model.specs.Holds.{root, foreign, on, inside, of-process, end-held, entry-held, inside-held, drop-holds, preempted, overruled}
+use Rattle.laws.proofs.Bools.{and-false}
 use Rattle.laws.proofs.Searches.{any-none, any-alike, clear-none}
 use Rattle.laws.proofs.Clears.{clear-alike}
-use Rattle.rows.specs.Stands.{Stands, Becomes, with-holds}
+use Rattle.rows.specs.Stands.{Stands, Becomes}
+use Rattle.search.specs.declared.Caller.{Caller}
+use Rattle.search.specs.Callers.{Known}
 use Rattle.goals.specs.declared.Place.{Place}
 use Rattle.goals.specs.declared.Stop.the-variants.{Refused, Root, Entry}
 use Rattle.goals.specs.declared.Walk.{Walk}
@@ -38,13 +40,9 @@ module _ (w : Walk) where
   unfolding goal-of end-at
   entry-end e = ap end-at e
 
-  never : (b : Bool) → (b && false) ≡ false
-  never true = refl
-  never false = refl
-
   pub ends-nowhere : goal-of w .end ≡ none → Scoped (λ h. is-end h && on (goal-of w .end) h) Nothing
   unfolding on covers Scope-named
-  ends-nowhere e = record { named = tt; same = λ h. sym (ap (λ o. is-end h && on o h) e ∙ never (is-end h)) }
+  ends-nowhere e = record { named = tt; same = λ h. sym (and-false (is-end h) (on (goal-of w .end) h) (λ _. ap (λ o. on o h) e)) }
 
   pub entry-nowhere : goal-of w .end ≡ none → Scoped (on (goal-of w .end)) Nothing
   unfolding on covers Scope-named
@@ -73,61 +71,61 @@ scoped-process p = record { named = tt; same = λ h. refl }
 
 -- WHO IS IN THE WAY
 
-module _ (t : Tables) (p : ℕ) where
-  module _ {test : Hold → Bool} {scope : Scope} {user : ℕ} (c : Scoped test scope) (e : user ≡ user-of (t .processes) p) where
-    way-is : (h : Hold) → in-the-way (t .processes) scope user h ≡ (test h && foreign t p h)
+module _ (t : Tables) (c : Caller) (known : Known (t .processes) c) where
+  module _ {test : Hold → Bool} {scope : Scope} (s : Scoped test scope) where
+    way-is : (h : Hold) → in-the-way (t .processes) scope (c .user) h ≡ (test h && foreign t (c .process) h)
     unfolding in-the-way of-another foreign
     way-is h =
-        ap (λ b. b && of-another (t .processes) user h) (c .same h)
-        ∙ ap (λ u. test h && (not (free-hold h) && not (eqb (user-of (t .processes) (h .process)) u))) e
+        ap (λ b. b && of-another (t .processes) (c .user) h) (s .same h)
+        ∙ ap (λ u. test h && (not (free-hold h) && not (eqb (user-of (t .processes) (h .process)) u))) (known .user)
 
-    any-way : {r : Bool} → r ≡ any (in-the-way (t .processes) scope user) (t .holds) → r ≡ any (λ h. test h && foreign t p h) (t .holds)
-    any-way q = q ∙ any-alike (in-the-way (t .processes) scope user) (λ h. test h && foreign t p h) way-is (t .holds)
+    any-way : {r : Bool} → r ≡ any (in-the-way (t .processes) scope (c .user)) (t .holds) → r ≡ any (λ h. test h && foreign t (c .process) h) (t .holds)
+    any-way q = q ∙ any-alike (in-the-way (t .processes) scope (c .user)) (λ h. test h && foreign t (c .process) h) way-is (t .holds)
 
-  module _ (g : Goal) {scope : Scope} {user : ℕ} (e : user ≡ user-of (t .processes) p) {r : Bool}
-      (q : r ≡ any (in-the-way (t .processes) scope user) (t .holds)) where
-    pub end-held-is : Scoped (λ h. is-end h && on (g .end) h) scope → r ≡ end-held t p g
+  module _ (g : Goal) {scope : Scope} {r : Bool} (q : r ≡ any (in-the-way (t .processes) scope (c .user)) (t .holds)) where
+    pub end-held-is : Scoped (λ h. is-end h && on (g .end) h) scope → r ≡ end-held t (c .process) g
     unfolding end-held
-    end-held-is c = any-way c e q
+    end-held-is s = any-way s q
 
-    pub entry-held-is : Scoped (on (g .end)) scope → r ≡ entry-held t p g
+    pub entry-held-is : Scoped (on (g .end)) scope → r ≡ entry-held t (c .process) g
     unfolding entry-held
-    entry-held-is c = any-way c e q
+    entry-held-is s = any-way s q
 
-  pub inside-held-is : (d : ℕ) {user : ℕ} → user ≡ user-of (t .processes) p → {r : Bool}
-      → r ≡ any (in-the-way (t .processes) (Inside d) user) (t .holds) → r ≡ inside-held t p d
+  pub inside-held-is : (d : ℕ) {r : Bool} → r ≡ any (in-the-way (t .processes) (Inside d) (c .user)) (t .holds) → r ≡ inside-held t (c .process) d
   unfolding inside-held
-  inside-held-is d e q = any-way (scoped-inside d) e q
+  inside-held-is d q = any-way (scoped-inside d) q
 
   -- WHAT ROOT DROPS
 
-  module _ (g : Goal) {user : ℕ} (e : user ≡ user-of (t .processes) p) where
-    module _ (z : user ≡ 0) where
-      is-root : root t p ≡ true
-      unfolding root
-      is-root = eq-eqb (user-of (t .processes) p) 0 (sym e ∙ z)
+  pub root-is : {b : Bool} → b ≡ eqb (c .user) 0 → b ≡ root t (c .process)
+  unfolding root
+  root-is e = e ∙ ap (λ u. eqb u 0) (known .user)
+
+  module _ (g : Goal) {b : Bool} (e : b ≡ eqb (c .user) 0) where
+    module _ (z : b ≡ true) where
+      is-root : true ≡ root t (c .process)
+      is-root = sym z ∙ root-is e
 
       pub preempts : {scope : Scope} → Scoped (λ h. is-end h && on (g .end) h) scope → (h : Hold)
-          → in-the-way (t .processes) scope user h ≡ preempted t p g h
+          → in-the-way (t .processes) scope (c .user) h ≡ preempted t (c .process) g h
       unfolding preempted
-      preempts c h = way-is c e h ∙ ap (λ b. b && is-end h && on (g .end) h && foreign t p h) (sym is-root)
+      preempts s h = way-is s h ∙ ap (λ x. x && is-end h && on (g .end) h && foreign t (c .process) h) is-root
 
-      pub overrules : {scope : Scope} → Scoped (on (g .end)) scope → (h : Hold) → in-the-way (t .processes) scope user h ≡ overruled t p g h
+      pub overrules : {scope : Scope} → Scoped (on (g .end)) scope → (h : Hold) → in-the-way (t .processes) scope (c .user) h ≡ overruled t (c .process) g h
       unfolding overruled
-      overrules c h = way-is c e h ∙ ap (λ b. b && on (g .end) h && foreign t p h) (sym is-root)
+      overrules s h = way-is s h ∙ ap (λ x. x && on (g .end) h && foreign t (c .process) h) is-root
 
-    module _ (z : user ≡ 0 → ⊥) where
-      not-root : root t p ≡ false
-      unfolding root
-      not-root = ne-eqb (user-of (t .processes) p) 0 (λ q. z (e ∙ q))
+    module _ (z : b ≡ false) where
+      not-root : root t (c .process) ≡ false
+      not-root = sym (root-is e) ∙ z
 
-      pub none-preempted : (h : Hold) → preempted t p g h ≡ false
+      pub none-preempted : (h : Hold) → preempted t (c .process) g h ≡ false
       unfolding preempted
-      none-preempted h = ap (λ b. b && is-end h && on (g .end) h && foreign t p h) not-root
+      none-preempted h = ap (λ x. x && is-end h && on (g .end) h && foreign t (c .process) h) not-root
 
-      pub none-overruled : (h : Hold) → overruled t p g h ≡ false
+      pub none-overruled : (h : Hold) → overruled t (c .process) g h ≡ false
       unfolding overruled
-      none-overruled h = ap (λ b. b && on (g .end) h && foreign t p h) not-root
+      none-overruled h = ap (λ x. x && on (g .end) h && foreign t (c .process) h) not-root
 
 pub drops-alike : (t : Tables) (f g : Hold → Bool) → ((h : Hold) → f h ≡ g h) → {v : List ℕ} → Becomes v (with-holds t (drop-holds f (t .holds)))
     → Becomes v (with-holds t (drop-holds g (t .holds)))

@@ -4,12 +4,13 @@ ghost use mathlib.Core.Path.{_≡_};
 ghost use Prim.Native.Nat.{_<_};
 ghost use lib.Dec.{eqb};
 ghost use Rattle.model.specs.Lists.{any};
-ghost use Rattle.model.specs.Tables.{no-hold};
+ghost use Rattle.model.specs.Tables.{hold-rows, no-hold, with-holds};
 ghost use Rattle.model.specs.Sound.{is-end};
-ghost use Rattle.model.specs.Holds.{root, on, inside, of-process, end-held, entry-held, inside-held, drop-holds, preempted, overruled};
+ghost use Rattle.model.specs.Holds.{on, inside, of-process, end-held, entry-held, inside-held, drop-holds, preempted, overruled};
 ghost use Rattle.model.specs.Words.{unpack};
 ghost use Rattle.laws.specs.Clears.{clear-at};
-ghost use Rattle.rows.specs.Stands.{Stands, Becomes, with-holds, hold-row};
+ghost use Rattle.rows.specs.Stands.{Stands, Becomes, hold-row};
+ghost use Rattle.search.specs.Callers.{Known};
 ghost use Rattle.goals.specs.Goals.{goal-of, Walk-named};
 ghost use Rattle.holds.specs.Scopes.{covers, scope-directory, Scope-named, Scoped, of-another, in-the-way};
 use edits::clear_hold;
@@ -21,6 +22,8 @@ use rows::HOLD_ROWS;
 use rows::hold_directory;
 use rows::hold_process;
 use rows::hold_role;
+use search::Caller;
+use search::ROOT_USER;
 use search::hold_is_on;
 use search::user_of_process;
 
@@ -34,16 +37,15 @@ enum Scope {
     Of(u16),
 }
 
-pub fn is_root(words: &[u32], process: u16) -> bool
-    requires { ⌜ Stands (now words) ⌝ }
-    ensures { λ r. ⌜ r ≡ root (unpack (now (words .entry))) process ⌝ }
+pub fn is_root(caller: Caller) -> bool
+    ensures { λ r. ⌜ r ≡ eqb (caller .user) 0 ⌝ }
 {
-    user_of_process(words, process) == 0
+    caller.user == ROOT_USER
 }
 
 // Whether the hold of a row is of another user than this.
 fn is_of_another(words: &[u32], row: usize, user: u16) -> bool
-    requires { ⌜ (Stands (now words)) × (row < 256) ⌝ }
+    requires { ⌜ (Stands (now words)) × (row < hold-rows) ⌝ }
     ensures { λ r. ⌜ r ≡ of-another (unpack (now (words .entry)) .processes) user (hold-row (now (words .entry)) row) ⌝ }
 {
     if hold_directory(words, row) == 0 {
@@ -53,7 +55,7 @@ fn is_of_another(words: &[u32], row: usize, user: u16) -> bool
 }
 
 fn ends_at(words: &[u32], row: usize, place: Place) -> bool
-    requires { ⌜ (Stands (now words)) × ((row < 256) × (Scope-named (Scope.EndAt place))) ⌝ }
+    requires { ⌜ (Stands (now words)) × ((row < hold-rows) × (Scope-named (Scope.EndAt place))) ⌝ }
     ensures { λ r. ⌜ r ≡ covers (Scope.EndAt place) (hold-row (now (words .entry)) row) ⌝ }
 {
     if hold_role(words, row) != END {
@@ -64,7 +66,7 @@ fn ends_at(words: &[u32], row: usize, place: Place) -> bool
 }
 
 fn is_covered(words: &[u32], row: usize, scope: Scope) -> bool
-    requires { ⌜ (Stands (now words)) × ((row < 256) × (Scope-named scope)) ⌝ }
+    requires { ⌜ (Stands (now words)) × ((row < hold-rows) × (Scope-named scope)) ⌝ }
     ensures { λ r. ⌜ r ≡ covers scope (hold-row (now (words .entry)) row) ⌝ }
 {
     match scope {
@@ -81,7 +83,7 @@ fn is_covered(words: &[u32], row: usize, scope: Scope) -> bool
 
 // The scope is asked first: of the rows that are in use, few are in it.
 fn is_in_the_way(words: &[u32], row: usize, scope: Scope, user: u16) -> bool
-    requires { ⌜ (Stands (now words)) × ((row < 256) × (Scope-named scope)) ⌝ }
+    requires { ⌜ (Stands (now words)) × ((row < hold-rows) × (Scope-named scope)) ⌝ }
     ensures { λ r. ⌜ r ≡ in-the-way (unpack (now (words .entry)) .processes) scope user (hold-row (now (words .entry)) row) ⌝ }
 {
     if is_covered(words, row, scope) {
@@ -104,7 +106,7 @@ fn directory_of(scope: Scope) -> u16
 
 // Whether a hold of this row may be in a scope of this directory; 0 is for a scope that has none.
 fn may_be_covered(words: &[u32], row: usize, directory: u16) -> bool
-    requires { ⌜ (Stands (now words)) × (row < 256) ⌝ }
+    requires { ⌜ (Stands (now words)) × (row < hold-rows) ⌝ }
     ensures { λ r. ⌜ r ≡ (eqb directory 0 || eqb (hold-row (now (words .entry)) row .place .directory) directory) ⌝ }
 {
     if directory == 0 {
@@ -113,20 +115,26 @@ fn may_be_covered(words: &[u32], row: usize, directory: u16) -> bool
     hold_directory(words, row) == directory
 }
 
-// Whether another user has a hold in the scope. Most rows stand in another directory, and are passed over by that alone.
+// Whether another user has a hold in the scope. Most rows stand in another directory, and are passed over by that alone, two for each step of the loop:
+// a check of few names waits for this pass more than for all else.
 fn others_hold(words: &[u32], scope: Scope, user: u16) -> bool
     requires { ⌜ (Stands (now words)) × (Scope-named scope) ⌝ }
     ensures { λ r. ⌜ r ≡ any (in-the-way (unpack (now (words .entry)) .processes) scope user) (unpack (now (words .entry)) .holds) ⌝ }
 {
     let directory = directory_of(scope);
-    let mut i = 0;
-    while i < HOLD_ROWS {
-        if may_be_covered(words, i, directory) {
-            if is_in_the_way(words, i, scope, user) {
+    let mut pair = 0;
+    while pair < HOLD_ROWS / 2 {
+        if may_be_covered(words, pair * 2, directory) {
+            if is_in_the_way(words, pair * 2, scope, user) {
                 return true;
             }
         }
-        i += 1;
+        if may_be_covered(words, pair * 2 + 1, directory) {
+            if is_in_the_way(words, pair * 2 + 1, scope, user) {
+                return true;
+            }
+        }
+        pair += 1;
     }
     false
 }
@@ -159,34 +167,31 @@ fn entry_scope(walk: Walk) -> Scope
     }
 }
 
-pub fn end_held(words: &[u32], process: u16, walk: Walk) -> bool
-    requires { ⌜ (Stands (now words)) × (Walk-named walk) ⌝ }
-    ensures { λ r. ⌜ r ≡ end-held (unpack (now (words .entry))) process (goal-of walk) ⌝ }
+pub fn end_held(words: &[u32], caller: Caller, walk: Walk) -> bool
+    requires { ⌜ (Stands (now words)) × ((Known (unpack (now words) .processes) caller) × (Walk-named walk)) ⌝ }
+    ensures { λ r. ⌜ r ≡ end-held (unpack (now (words .entry))) (caller .process) (goal-of walk) ⌝ }
 {
-    let user = user_of_process(words, process);
-    others_hold(words, end_scope(walk), user)
+    others_hold(words, end_scope(walk), caller.user)
 }
 
-pub fn entry_held(words: &[u32], process: u16, walk: Walk) -> bool
-    requires { ⌜ (Stands (now words)) × (Walk-named walk) ⌝ }
-    ensures { λ r. ⌜ r ≡ entry-held (unpack (now (words .entry))) process (goal-of walk) ⌝ }
+pub fn entry_held(words: &[u32], caller: Caller, walk: Walk) -> bool
+    requires { ⌜ (Stands (now words)) × ((Known (unpack (now words) .processes) caller) × (Walk-named walk)) ⌝ }
+    ensures { λ r. ⌜ r ≡ entry-held (unpack (now (words .entry))) (caller .process) (goal-of walk) ⌝ }
 {
-    let user = user_of_process(words, process);
-    others_hold(words, entry_scope(walk), user)
+    others_hold(words, entry_scope(walk), caller.user)
 }
 
-pub fn inside_held(words: &[u32], process: u16, directory: u16) -> bool
-    requires { ⌜ Stands (now words) ⌝ }
-    ensures { λ r. ⌜ r ≡ inside-held (unpack (now (words .entry))) process directory ⌝ }
+pub fn inside_held(words: &[u32], caller: Caller, directory: u16) -> bool
+    requires { ⌜ (Stands (now words)) × (Known (unpack (now words) .processes) caller) ⌝ }
+    ensures { λ r. ⌜ r ≡ inside-held (unpack (now (words .entry))) (caller .process) directory ⌝ }
 {
-    let user = user_of_process(words, process);
-    others_hold(words, Scope::Inside(directory), user)
+    others_hold(words, Scope::Inside(directory), caller.user)
 }
 
 // WHAT IS DROPPED
 
 fn drop_if_covered(words: &mut [u32], row: usize, scope: Scope)
-    requires { ⌜ (Stands (now words)) × ((row < 256) × (Scope-named scope)) ⌝ }
+    requires { ⌜ (Stands (now words)) × ((row < hold-rows) × (Scope-named scope)) ⌝ }
     ensures { λ _. ⌜ Becomes (now (words .exit)) (with-holds (unpack (now (words .entry))) (clear-at (covers scope) no-hold row (unpack (now (words .entry)) .holds))) ⌝ }
 {
     if is_covered(words, row, scope) {
@@ -222,7 +227,7 @@ pub fn drop_inside(words: &mut [u32], directory: u16)
 }
 
 fn drop_if_in_the_way(words: &mut [u32], row: usize, scope: Scope, user: u16)
-    requires { ⌜ (Stands (now words)) × ((row < 256) × (Scope-named scope)) ⌝ }
+    requires { ⌜ (Stands (now words)) × ((row < hold-rows) × (Scope-named scope)) ⌝ }
     ensures { λ _. ⌜ Becomes (now (words .exit)) (with-holds (unpack (now (words .entry))) (clear-at (in-the-way (unpack (now (words .entry)) .processes) scope user) no-hold row (unpack (now (words .entry)) .holds))) ⌝ }
 {
     if is_in_the_way(words, row, scope, user) {
@@ -242,25 +247,21 @@ fn drop_in_the_way(words: &mut [u32], scope: Scope, user: u16)
 }
 
 // Root at calls 5 to 7: other users lose their end holds at the end of the walk.
-pub fn drop_preempted(words: &mut [u32], process: u16, walk: Walk)
-    requires { ⌜ (Stands (now words)) × (Walk-named walk) ⌝ }
-    ensures { λ _. ⌜ Becomes (now (words .exit)) (with-holds (unpack (now (words .entry))) (drop-holds (preempted (unpack (now (words .entry))) process (goal-of walk)) (unpack (now (words .entry)) .holds))) ⌝ }
+pub fn drop_preempted(words: &mut [u32], caller: Caller, walk: Walk)
+    requires { ⌜ (Stands (now words)) × ((Known (unpack (now words) .processes) caller) × (Walk-named walk)) ⌝ }
+    ensures { λ _. ⌜ Becomes (now (words .exit)) (with-holds (unpack (now (words .entry))) (drop-holds (preempted (unpack (now (words .entry))) (caller .process) (goal-of walk)) (unpack (now (words .entry)) .holds))) ⌝ }
 {
-    let user = user_of_process(words, process);
-    if user != 0 {
-        return;
+    if is_root(caller) {
+        drop_in_the_way(words, end_scope(walk), caller.user);
     }
-    drop_in_the_way(words, end_scope(walk), user);
 }
 
 // Root at calls 8 to 13: they lose their holds there in either role.
-pub fn drop_overruled(words: &mut [u32], process: u16, walk: Walk)
-    requires { ⌜ (Stands (now words)) × (Walk-named walk) ⌝ }
-    ensures { λ _. ⌜ Becomes (now (words .exit)) (with-holds (unpack (now (words .entry))) (drop-holds (overruled (unpack (now (words .entry))) process (goal-of walk)) (unpack (now (words .entry)) .holds))) ⌝ }
+pub fn drop_overruled(words: &mut [u32], caller: Caller, walk: Walk)
+    requires { ⌜ (Stands (now words)) × ((Known (unpack (now words) .processes) caller) × (Walk-named walk)) ⌝ }
+    ensures { λ _. ⌜ Becomes (now (words .exit)) (with-holds (unpack (now (words .entry))) (drop-holds (overruled (unpack (now (words .entry))) (caller .process) (goal-of walk)) (unpack (now (words .entry)) .holds))) ⌝ }
 {
-    let user = user_of_process(words, process);
-    if user != 0 {
-        return;
+    if is_root(caller) {
+        drop_in_the_way(words, entry_scope(walk), caller.user);
     }
-    drop_in_the_way(words, entry_scope(walk), user);
 }

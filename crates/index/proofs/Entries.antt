@@ -7,7 +7,7 @@ use native.Mathlib.Omega.{arith}
 use borrow.Author.Tests.{eq-eqb, ne-eqb}
 use lib.Dec.{eqb}
 use lib.ListN.{getD, set, replicate}
-use Rattle.model.specs.Tables.{Place, Entry, no-entry, free-entry, at, lookup}
+use Rattle.model.specs.Tables.{Place, Entry, no-entry, free-entry, at, lookup, entry-rows}
 use Rattle.model.specs.Sound.{same-entry, entries-distinct}
 use Rattle.model.specs.Words.{unpack}
 use Rattle.laws.proofs.Distinct.{none-by-place}
@@ -15,51 +15,29 @@ use Rattle.laws.proofs.Members.{at-in}
 use Rattle.laws.proofs.Places.{same-place-self, same-place-equal, same-place-directory}
 use Rattle.laws.proofs.Rules.{find-only}
 use Rattle.laws.proofs.Searches.{find-missing}
-use Rattle.invariants.proofs.Words.{name-back as name-comes-back}
 use Rattle.rows.specs.declared.Block.{Block}
 use Rattle.rows.specs.Blocks.{Named, block-of, place-of, name-of}
 use Rattle.rows.specs.Stands.{Stands, entry-row}
-use Rattle.rows.proofs.Blocks.{name-back, block-named}
 use Rattle.rows.proofs.Fields.{entry-row-fits}
 use Rattle.rows.proofs.Parts.{entries-full}
-use Rattle.index.specs.Buckets.{last-below, in-bucket, Chained}
-use Rattle.index.specs.Descent.{Descent}
-use Rattle.index.specs.Indexed.{place-bucket, entry-used, entry-bucket, row-at, row-found, node-in, Chain-of, Indexed}
-use Rattle.index.proofs.Apart.{Apart-chained, apart-starts, apart-past, apart-more, apart-twice, apart-ends, all-chained}
-use Rattle.index.proofs.Buckets.{last-within, last-passes, none-below, in-own-bucket}
+use Rattle.index.specs.Buckets.{last-below, Chained, Descent}
+use Rattle.index.specs.Indexed.{entry-buckets, place-bucket, entry-chains, row-at, row-found, node-in, Indexed}
+use Rattle.index.proofs.Apart.{Comparable, Apart-chained, apart-starts, apart-past, apart-more, apart-twice, apart-ends, all-chained}
+use Rattle.index.proofs.Buckets.{last-within, last-passes, none-below}
+use Rattle.index.proofs.Descents.{descent-from-head}
+use Rattle.index.proofs.Places.{block-names, place-again}
 
 -- ONE ROW
 
-module _ (w : List ℕ) (k : ℕ) where
-  name-comes : name-of (block-of (entry-row w k .place .name)) ≡ entry-row w k .place .name
-  name-comes = name-back (entry-row w k .place .name) (name-comes-back (entry-row-fits w k .name))
-
-  pub row-named : {b : Block} → b ≡ block-of (entry-row w k .place .name) → Named b
-  row-named e = rw e (block-named (entry-row w k .place .name) (name-comes-back (entry-row-fits w k .name)))
-
-  -- the place that the code has of a row is the row's
-  pub row-place : {d : ℕ} {b : Block} → d ≡ entry-row w k .place .directory → b ≡ block-of (entry-row w k .place .name) → place-of d b ≡ entry-row w k .place
-  unfolding place-of
-  row-place e f = λ i. record { directory = e i; name = (ap name-of f ∙ name-comes) i }
-
-  pub row-bucket : {d h : ℕ} {b : Block} → d ≡ entry-row w k .place .directory → b ≡ block-of (entry-row w k .place .name) → h ≡ place-bucket d b
-      → h ≡ entry-bucket w k
-  row-bucket e f g = g ∙ ap₂ place-bucket e f
-
-  pub row-used : {d : ℕ} → d ≡ entry-row w k .place .directory → (d ≡ 0 → ⊥) → entry-used w k ≡ true
-  unfolding free-entry
-  row-used e u = ap not (ne-eqb (entry-row w k .place .directory) 0 (λ z. u (e ∙ z)))
-
-  pub row-free : {d : ℕ} → d ≡ entry-row w k .place .directory → d ≡ 0 → entry-used w k ≡ false
-  unfolding free-entry
-  row-free e z = ap not (eq-eqb (entry-row w k .place .directory) 0 (sym e ∙ z))
+pub row-named : (w : List ℕ) (k : ℕ) {b : Block} → b ≡ block-of (entry-row w k .place .name) → Named b
+row-named w k e = block-names (entry-row w k .place) (entry-row-fits w k .name) e
 
 -- a row with no directory is free
-pub without-directory : (x : Entry) → x .place .directory ≡ 0 → free-entry x ≡ true
+without-directory : (x : Entry) → x .place .directory ≡ 0 → free-entry x ≡ true
 unfolding free-entry
 without-directory x z = eq-eqb (x .place .directory) 0 z
 
-pub with-directory : (x : Entry) → (x .place .directory ≡ 0 → ⊥) → free-entry x ≡ false
+with-directory : (x : Entry) → (x .place .directory ≡ 0 → ⊥) → free-entry x ≡ false
 unfolding free-entry
 with-directory x n = ne-eqb (x .place .directory) 0 n
 
@@ -75,106 +53,87 @@ block-back b n =
     }
 
 -- only rows of the place's bucket are at the place
-pub into-bucket : (w : List ℕ) (d : ℕ) (b : Block) → Named b → (d ≡ 0 → ⊥) → (k : ℕ) → row-at w (place-of d b) k ≡ true
-    → in-bucket (entry-used w) (entry-bucket w) (place-bucket d b) k ≡ true
+into-bucket : (d : ℕ) (b : Block) → Named b → (d ≡ 0 → ⊥) → (x : Entry) → at (place-of d b) x ≡ true
+    → (not (free-entry x) ≡ true) × (place-bucket (x .place .directory) (block-of (x .place .name)) ≡ place-bucket d b)
 unfolding at place-of
-into-bucket w d b n u k t =
-    let e : entry-row w k .place ≡ place-of d b = same-place-equal (entry-row w k .place) (place-of d b) t in
-    let f : block-of (entry-row w k .place .name) ≡ b = ap (λ (q : Place). block-of (q .name)) e ∙ block-back b n in
-    let g : entry-bucket w k ≡ place-bucket d b = ap₂ place-bucket (ap (λ (q : Place). q .directory) e) f in
-    ap (λ x. in-bucket (entry-used w) (entry-bucket w) x k) (sym g)
-    ∙ in-own-bucket (entry-used w) (entry-bucket w) k (row-used w k (sym (ap (λ (q : Place). q .directory) e)) u)
+into-bucket d b n u x p =
+    let e : x .place ≡ place-of d b = same-place-equal (x .place) (place-of d b) p in
+    let f : block-of (x .place .name) ≡ b = ap (λ (q : Place). block-of (q .name)) e ∙ block-back b n in
+    let g : x .place .directory ≡ d = ap (λ (q : Place). q .directory) e in
+    (ap not (with-directory x (λ z. u (sym g ∙ z))), ap₂ place-bucket g f)
 
 -- the chain of a place begins at its bucket's head
-pub chain-from-head : {w heads next : List ℕ} {i : ℕ} → Stands w → Chained (entry-used w) (entry-bucket w) 1021 512 heads next i → i ≤ 512
-    → {d h : ℕ} {b : Block} → Named b → (d ≡ 0 → ⊥) → h ≡ place-bucket d b → h < 1021 → Chain-of w next (getD heads h 0) d b i
-chain-from-head {w} {i = i} s c l {h = h} n u e a =
-    record {
-      stands = s;
-      inside = l;
-      named = n;
-      used = u;
-      linked = c .linked;
-      start = c .heads-right h a ∙ ap (λ x. last-below (in-bucket (entry-used w) (entry-bucket w) x) i) e;
-    }
-
--- so it is gone down in search of the place's row
-pub chain-descent : {w next : List ℕ} {from d limit : ℕ} {b : Block} → Chain-of w next from d b limit
-    → Descent (entry-used w) (entry-bucket w) (row-at w (place-of d b)) next from (place-bucket d b) limit
-chain-descent {w} {d = d} {b = b} p = record { linked = p .linked; start = p .start; only = into-bucket w d b (p .named) (p .used) }
+pub entry-descent : (d : ℕ) (b : Block) {entries : List Entry} {heads next : List ℕ} {i h : ℕ} → Chained (entry-chains entries) heads next i → Named b
+    → (d ≡ 0 → ⊥) → h ≡ place-bucket d b → h < entry-buckets
+    → Descent (entry-chains entries) (at (place-of d b)) next (getD heads h 0) (place-bucket d b) i
+entry-descent d b c n u e s = descent-from-head c e s (into-bucket d b n u)
 
 -- THE INDEX IS BUILT
 
--- entries at one place are free or used together
-free-together : (x y : Entry) → same-entry x y ≡ true → free-entry x ≡ free-entry y
+comparable : (w : List ℕ) → Comparable (entry-chains (unpack w .entries)) free-entry same-entry
 unfolding same-entry free-entry
-free-together x y t = ap (λ n. eqb n 0) (same-place-directory (x .place) (y .place) t)
+comparable w =
+    record {
+      full = entries-full w;
+      used = λ x. refl;
+      together = λ x y same. ap (λ n. eqb n 0) (same-place-directory (x .place) (y .place) same);
+    }
 
 -- what holds before row i is looked at
 abbrev pub Building : List ℕ → List ℕ → List ℕ → ℕ → Type 0
-Building w heads next i = Apart-chained free-entry same-entry no-entry (unpack w .entries) (entry-bucket w) 1021 512 heads next i
+Building w heads next i = Apart-chained (entry-chains (unpack w .entries)) free-entry same-entry heads next i
 
-module _ (w heads next : List ℕ) where
-  pub building-starts : heads ≡ replicate 1021 0 → next ≡ replicate 512 0 → Building w heads next 0
-  building-starts = apart-starts free-entry same-entry no-entry (unpack w .entries) (entry-bucket w) 1021 512 (entries-full w) free-together
+module _ (w : List ℕ) {heads next : List ℕ} where
+  pub building-starts : heads ≡ replicate entry-buckets 0 → next ≡ replicate entry-rows 0 → Building w heads next 0
+  building-starts = apart-starts (comparable w)
 
-  module _ {i : ℕ} (g : Building w heads next i) (r : i < 512) {d : ℕ} (e : d ≡ entry-row w i .place .directory) where
+  module _ {i : ℕ} (g : Building w heads next i) (r : i < entry-rows) {d : ℕ} (e : d ≡ entry-row w i .place .directory) where
     -- a free row is like none before it
     pub building-past : d ≡ 0 → Building w heads next (i + 1)
-    building-past z =
-        apart-past free-entry same-entry no-entry (unpack w .entries) (entry-bucket w) 1021 512 (entries-full w) free-together g r
-        (without-directory (entry-row w i) (sym e ∙ z))
+    building-past z = apart-past (comparable w) g r (without-directory (entry-row w i) (sym e ∙ z))
 
     module _ (used : d ≡ 0 → ⊥) {b : Block} (f : b ≡ block-of (entry-row w i .place .name)) {l : ℕ}
         (last : l ≡ last-below (row-at w (place-of d b)) i) where
       same-last : l ≡ last-below (λ k. same-entry (entry-row w k) (entry-row w i)) i
       unfolding same-entry at
-      same-last = last ∙ ap (λ q. last-below (row-at w q) i) (row-place w i e f)
+      same-last = last ∙ ap (λ q. last-below (row-at w q) i) (place-again (entry-row w i .place) (entry-row-fits w i .name) f e)
 
       this-used : free-entry (entry-row w i) ≡ false
       this-used = with-directory (entry-row w i) (λ z. used (e ∙ z))
 
       -- a used row that none before it is like
-      pub building-more : l ≡ 0 → {h : ℕ} → h ≡ place-bucket d b → h < 1021 → Building w (set heads h (i + 1)) (set next i (getD heads h 0)) (i + 1)
-      building-more z p s =
-          apart-more free-entry same-entry no-entry (unpack w .entries) (entry-bucket w) 1021 512 (entries-full w) free-together g r this-used same-last z
-          (row-bucket w i e f p) s
+      pub building-more : l ≡ 0 → {h : ℕ} → h ≡ place-bucket d b → h < entry-buckets
+          → Building w (set heads h (i + 1)) (set next i (getD heads h 0)) (i + 1)
+      building-more z p s = apart-more (comparable w) g r this-used same-last z (p ∙ ap₂ place-bucket e f) s
 
       -- a used row that one before it is like
       pub building-twice : (l ≡ 0 → ⊥) → false ≡ entries-distinct (unpack w)
       unfolding entries-distinct
-      building-twice =
-          apart-twice free-entry same-entry no-entry (unpack w .entries) (entry-bucket w) 1021 512 (entries-full w) free-together g r this-used same-last
+      building-twice = apart-twice (comparable w) g r this-used same-last
 
-  pub building-ends : {i : ℕ} → Stands w → Building w heads next i → 512 ≤ i
+  pub building-ends : {i : ℕ} → Stands w → Building w heads next i → entry-rows ≤ i
       → (true ≡ entries-distinct (unpack w)) × (_≡_ {A = Bool} true true → Indexed w heads next)
   unfolding entries-distinct
   building-ends s g h =
-      let d = apart-ends free-entry same-entry no-entry (unpack w .entries) (entry-bucket w) 1021 512 (entries-full w) free-together g h in (
-        d,
-        λ _. record {
-          stands = s;
-          chained = all-chained free-entry same-entry no-entry (unpack w .entries) (entry-bucket w) 1021 512 (entries-full w) free-together g h;
-          distinct = sym d;
-        },
-      )
+      let d = apart-ends (comparable w) g h in
+      (d, λ _. record { stands = s; chained = all-chained (comparable w) g h; distinct = sym d })
 
 -- A LOOKUP BY IT
 
 -- the row that is found is one of the table's
-pub found-within : (w : List ℕ) (q : Place) → row-found w q ≤ 512
+pub found-within : (w : List ℕ) (q : Place) → row-found w q ≤ entry-rows
 unfolding row-found
-found-within w q = last-within (row-at w q) 512
+found-within w q = last-within (row-at w q) entry-rows
 
-pub found-last : (w : List ℕ) (q : Place) {l : ℕ} → l ≡ last-below (row-at w q) 512 → l ≤ 512
-found-last w q e = rw e (last-within (row-at w q) 512)
+pub found-last : (w : List ℕ) (q : Place) {l : ℕ} → l ≡ last-below (row-at w q) entry-rows → l ≤ entry-rows
+found-last w q e = rw e (last-within (row-at w q) entry-rows)
 
 -- and has the place
 pub found-place : (w : List ℕ) (q : Place) {row : ℕ} → row-found w q ≡ suc row → entry-row w row .place ≡ q
 unfolding row-found at
 found-place w q {row} e =
     let here : row-found w q - 1 ≡ row = omega arith in
-    same-place-equal (entry-row w row .place) q (rw here at (last-passes (row-at w q) 512 (λ z. omega arith)))
+    same-place-equal (entry-row w row .place) q (rw here at (last-passes (row-at w q) entry-rows (λ z. omega arith)))
 
 -- the node of a row that is told so
 pub node-in-none : (w : List ℕ) (found : ℕ) → found ≡ 0 → 0 ≡ node-in w found
@@ -191,7 +150,7 @@ pub found-none : (w : List ℕ) (q : Place) → row-found w q ≡ 0 → 0 ≡ lo
 unfolding row-found lookup
 found-none w q e =
     sym (ap (λ (x : Entry). x .node) (find-missing (at q) no-entry (unpack w .entries)
-    (none-by-place (at q) no-entry (unpack w .entries) (λ k h. none-below (row-at w q) 512 e k (omega (arith, entries-full w))))))
+    (none-by-place (at q) no-entry (unpack w .entries) (λ k h. none-below (row-at w q) entry-rows e k (omega (arith, entries-full w))))))
 
 -- the entry that is found is the only one there
 found-only : (w : List ℕ) (q : Place) {row : ℕ} → (q .directory ≡ 0 → ⊥) → entries-distinct (unpack w) ≡ true → row-found w q ≡ suc row
@@ -204,7 +163,8 @@ found-only w q {row} u D e =
     (λ x y h k. rw (same-place-equal (x .place) q h, same-place-equal (y .place) q k) (same-place-self q))
     (unpack w .entries) (entry-row w row) D (at-in (unpack w .entries) row no-entry (omega (arith, found-within w q, entries-full w))) t))
 
-pub node-found-there : (w : List ℕ) (q : Place) → (q .directory ≡ 0 → ⊥) → entries-distinct (unpack w) ≡ true → node-in w (row-found w q) ≡ lookup (unpack w .entries) q
+pub node-found-there : (w : List ℕ) (q : Place) → (q .directory ≡ 0 → ⊥) → entries-distinct (unpack w) ≡ true
+    → node-in w (row-found w q) ≡ lookup (unpack w .entries) q
 unfolding node-in
 node-found-there w q u D = go (row-found w q) refl
   where

@@ -1,4 +1,6 @@
 pub mod Apart
 pub mod Buckets
 pub mod Descents
+pub mod Determined
 pub mod Entries
+pub mod Places

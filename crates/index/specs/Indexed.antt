@@ -2,27 +2,36 @@
 use mathlib.Core.Path.{_≡_}
 use mathlib.Core.Bool.{Bool, true, not}
 use mathlib.Core.List.{List}
-use Prim.Native.Nat.{ℕ, zero, suc, _+_, _*_, _%_, _≤_}
-use Rattle.model.specs.Tables.{Place, free-entry, at, entry-rows}
+use Prim.Native.Nat.{ℕ, zero, suc, _+_, _*_, _%_}
+use Rattle.model.specs.Tables.{Place, Entry, no-entry, free-entry, at, entry-rows}
 use Rattle.model.specs.Words.{unpack}
 use Rattle.model.specs.Sound.{entries-distinct}
 use Rattle.rows.specs.declared.Block.{Block}
-use Rattle.rows.specs.Blocks.{Named, block-of}
+use Rattle.rows.specs.Blocks.{block-of}
 use Rattle.rows.specs.Stands.{Stands, entry-row}
-use Rattle.index.specs.Buckets.{last-below, in-bucket, Linked, Chained}
+use Rattle.index.specs.Buckets.{last-below, Chains, Chained}
+
+-- how many chains there are
+abbrev pub entry-buckets : ℕ
+entry-buckets = 1021
 
 -- the sum that buckets go by; any function of a directory and a name would do
 unfoldable pub sum-of : ℕ → Block → ℕ
 sum-of d b = d * 577 + b .first * 211 + b .second * 863 + b .third * 389 + b .fourth * 727
 
 unfoldable pub place-bucket : ℕ → Block → ℕ
-place-bucket d b = sum-of d b % 1021
+place-bucket d b = sum-of d b % entry-buckets
 
-abbrev pub entry-used : List ℕ → ℕ → Bool
-entry-used w k = not (free-entry (entry-row w k))
-
-abbrev pub entry-bucket : List ℕ → ℕ → ℕ
-entry-bucket w k = place-bucket (entry-row w k .place .directory) (block-of (entry-row w k .place .name))
+abbrev pub entry-chains : List Entry → Chains Entry
+entry-chains entries =
+    record {
+      every = entries;
+      none = no-entry;
+      chosen = λ x. not (free-entry x);
+      bucket = λ x. place-bucket (x .place .directory) (block-of (x .place .name));
+      size = entry-buckets;
+      rows = entry-rows;
+    }
 
 -- the entry of row k is at the place
 abbrev pub row-at : List ℕ → Place → ℕ → Bool
@@ -37,17 +46,8 @@ unfoldable pub node-in : List ℕ → ℕ → ℕ
 node-in w zero = 0
 node-in w (suc row) = entry-row w row .node
 
--- the chain of a place's bucket, from `from` down, over the rows below `limit`
-pub record Chain-of (w next : List ℕ) (from d : ℕ) (b : Block) (limit : ℕ) : Type 0 where
-  pub stands : Stands w
-  pub inside : limit ≤ 512
-  pub named : Named b
-  pub used : d ≡ 0 → ⊥
-  pub linked : Linked (entry-used w) (entry-bucket w) next limit
-  pub start : from ≡ last-below (in-bucket (entry-used w) (entry-bucket w) (place-bucket d b)) limit
-
 -- the whole index, with what makes a place's last row its only one
 pub record Indexed (w heads next : List ℕ) : Type 0 where
   pub stands : Stands w
-  pub chained : Chained (entry-used w) (entry-bucket w) 1021 512 heads next 512
+  pub chained : Chained (entry-chains (unpack w .entries)) heads next entry-rows
   pub distinct : entries-distinct (unpack w) ≡ true

@@ -5,12 +5,13 @@ ghost use mathlib.Core.Bool.{true};
 ghost use mathlib.Core.Logic.{_≢_};
 ghost use Prim.Native.Nat.{_≤_, _<_};
 ghost use lib.ListN.{replicate};
+ghost use Rattle.model.specs.Tables.{entry-rows, at};
 ghost use Rattle.model.specs.Sound.{entries-distinct};
 ghost use Rattle.model.specs.Words.{unpack};
 ghost use Rattle.rows.specs.Blocks.{Named, place-of};
 ghost use Rattle.rows.specs.Stands.{Stands};
-ghost use Rattle.index.specs.Buckets.{last-below};
-ghost use Rattle.index.specs.Indexed.{sum-of, place-bucket, row-at, row-found, node-in, Chain-of, Indexed};
+ghost use Rattle.index.specs.Buckets.{last-below, Descent};
+ghost use Rattle.index.specs.Indexed.{entry-buckets, sum-of, place-bucket, entry-chains, row-at, row-found, node-in, Indexed};
 use rows::Block;
 use rows::ENTRY_ROWS;
 use rows::entry_directory;
@@ -28,7 +29,7 @@ pub fn index_entries(
     heads: &mut [u16; BUCKETS],
     next: &mut [u16; ENTRY_ROWS],
 ) -> bool
-    requires { ⌜ (Stands (now words)) × ((now heads ≡ replicate 1021 0) × (now next ≡ replicate 512 0)) ⌝ }
+    requires { ⌜ (Stands (now words)) × ((now heads ≡ replicate entry-buckets 0) × (now next ≡ replicate entry-rows 0)) ⌝ }
     ensures { λ r. ⌜ (r ≡ entries-distinct (unpack (now (words .entry)))) × (r ≡ true → Indexed (now (words .entry)) (now (heads .exit)) (now (next .exit))) ⌝ }
 {
     let mut row = 0;
@@ -58,7 +59,7 @@ pub fn find_entry(
     name: Block,
 ) -> usize
     requires { ⌜ (Indexed (now words) (now heads) (now next)) × ((Named name) × (directory ≢ 0)) ⌝ }
-    ensures { λ r. ⌜ (r ≡ row-found (now (words .entry)) (place-of directory name)) × (r ≤ 512) ⌝ }
+    ensures { λ r. ⌜ (r ≡ row-found (now (words .entry)) (place-of directory name)) × (r ≤ entry-rows) ⌝ }
 {
     let bucket = bucket_of(directory, name);
     last_at(words, next, heads[bucket], directory, name, ENTRY_ROWS)
@@ -66,7 +67,7 @@ pub fn find_entry(
 
 // The node that the entry of a row leads to, told as `find_entry` tells rows; 0 for an absence.
 pub fn node_found(words: &[u32], found: usize) -> u16
-    requires { ⌜ (Stands (now words)) × (found ≤ 512) ⌝ }
+    requires { ⌜ (Stands (now words)) × (found ≤ entry-rows) ⌝ }
     ensures { λ r. ⌜ r ≡ node-in (now (words .entry)) found ⌝ }
 {
     if found == 0 {
@@ -87,7 +88,7 @@ pub fn sum_of(directory: u16, name: Block) -> u64
 }
 
 fn bucket_of(directory: u16, name: Block) -> usize
-    ensures { λ r. ⌜ (r ≡ place-bucket directory name) × (r < 1021) ⌝ }
+    ensures { λ r. ⌜ (r ≡ place-bucket directory name) × (r < entry-buckets) ⌝ }
 {
     (sum_of(directory, name) % BUCKETS as u64) as usize
 }
@@ -101,7 +102,7 @@ fn last_at(
     name: Block,
     limit: usize,
 ) -> usize
-    requires { ⌜ Chain-of (now words) (now next) from directory name limit ⌝ }
+    requires { ⌜ (Stands (now words)) × ((Named name) × (Descent (entry-chains (unpack (now words) .entries)) (at (place-of directory name)) (now next) from (place-bucket directory name) limit)) ⌝ }
     ensures { λ r. ⌜ r ≡ last-below (row-at (now (words .entry)) (place-of directory name)) limit ⌝ }
 {
     let mut found = wide(from);

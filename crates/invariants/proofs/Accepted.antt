@@ -3,19 +3,19 @@
 use mathlib.Core.Path.{_≡_, refl, sym, ap, _∙_}
 use mathlib.Core.Bool.{Bool, true, false, not, _&&_, _||_}
 use mathlib.Core.List.{List, [], _∷_, _++_}
-use Prim.Native.Nat.{ℕ, _^_, _≤_, _<_}
+use Prim.Native.Nat.{ℕ, zero, suc, _^_, _≤_, _<_}
 use native.Mathlib.Omega.{arith}
-use borrow.Author.Tests.{leb-true, eqb-true, eqb-false, ltb-false, le-ltb}
+use borrow.Author.Tests.{leb-true, eqb-true, eqb-false, ltb-true, ltb-false, le-ltb}
 use lib.Dec.{eqb, leb, ltb}
-use lib.ListN.{length, take, length-take, drop}
+use lib.ListN.{length, take, length-take, drop, List·getD-eq-default}
 use lib.Seq.{length-take-le}
 use Rattle.model.specs.Lists.{empty, all}
 use Rattle.model.specs.Refusals.{granted, _>>_, _>>=_}
 use Rattle.model.specs.Paths.{valid-path, valid-target, absolute, names, valid-name}
 use Rattle.model.specs.Words.{bits}
-use Rattle.model.specs.Records.{Call, Wanted, blank, path, target, calls, row-of, known, not-blank, not-valid, fork-call, fields-broken, paths-broken, well-formed, fields, short, taken, read, write, fields-from, head-of, packing, packed, record-length}
+use Rattle.model.specs.Records.{Call, Row, Wanted, blank, path, target, calls, row-of, known, not-blank, not-valid, fork-call, fields-broken, paths-broken, well-formed, fields, short, taken, read, write, fields-from, head-of, packing, packed, record-length}
 use Rattle.laws.proofs.Bools.{clash, and-left, and-right, neither-left, neither-right, not-false}
-use Rattle.laws.proofs.Each.{Each, each-take, each-drop}
+use Rattle.laws.proofs.Each.{Each, each-at, each-take, each-drop, passes-each}
 use Rattle.laws.proofs.Grants.{same-grant, passed, both-granted}
 use Rattle.laws.proofs.Pieces.{Byte, bits-within}
 use Rattle.invariants.proofs.Heads.{Call-fits}
@@ -52,10 +52,32 @@ path-within blank (x ∷ s) b v = clash refl b
 path-within path s b v = omega (arith, valid-path-short s (not-false (valid-path s) v))
 path-within target s b v = omega (arith, valid-target-short s (not-false (valid-target s) v))
 
+-- the calls that are known have a place in the table
+pub known-above : (c : ℕ) → known c ≡ true → 1 ≤ c
+unfolding known row-of
+known-above zero e = clash e refl
+known-above (suc n) e = omega arith
+
+pub known-within : (c : ℕ) → known c ≡ true → c ≤ length calls
+unfolding known row-of
+known-within zero e = clash e refl
+known-within (suc n) e =
+    go (ltb n (length calls)) refl
+  where
+    go : (b : Bool) → ltb n (length calls) ≡ b → suc n ≤ length calls
+    go true h = omega (arith, ltb-true n (length calls) h)
+    go false h = clash e (ap (λ (r : Row). r .there) (List·getD-eq-default calls (row-of 0) {n = n} (ltb-false n (length calls) h)))
+
+-- every call is made by a process
+pub made-by-process : (c : ℕ) → row-of c .by-process ≡ true
+unfolding row-of calls all
+made-by-process zero = refl
+made-by-process (suc n) = each-at (passes-each (λ (r : Row). r .by-process) calls refl) refl n
+
 -- what it means that no field is broken
 pub record Fields-right (r : Call) : Type 0 where
   pub known-call : known (r .call) ≡ true
-  pub process : (r .process ≡ 0) → ⊥
+  pub process : row-of (r .call) .by-process ≡ true → (r .process ≡ 0) → ⊥
   pub child : (eqb (r .call) fork-call && eqb (r .argument) 0) ≡ false
   pub argument : (not (row-of (r .call) .argument) && not (eqb (r .argument) 0)) ≡ false
   pub path1 : not-blank (row-of (r .call) .path1) (r .path1) ≡ false
@@ -65,12 +87,12 @@ pub record Fields-right (r : Call) : Type 0 where
 pub fields-right : (r : Call) → fields-broken r ≡ false → Fields-right r
 unfolding fields-broken
 fields-right r =
-    go (not (known (r .call))) (eqb (r .process) 0) (eqb (r .call) fork-call && eqb (r .argument) 0)
+    go (not (known (r .call))) (row-of (r .call) .by-process && eqb (r .process) 0) (eqb (r .call) fork-call && eqb (r .argument) 0)
     (not (row-of (r .call) .argument) && not (eqb (r .argument) 0)) (not-blank (row-of (r .call) .path1) (r .path1))
     (not-blank (row-of (r .call) .path2) (r .path2)) (not (eqb (r .zeros) 0))
     (λ a b c d e f g. record {
       known-call = not-false (known (r .call)) a;
-      process = eqb-false (r .process) 0 b;
+      process = λ wanted. eqb-false (r .process) 0 (rw wanted at b);
       child = c;
       argument = d;
       path1 = e;
@@ -101,7 +123,7 @@ accepted-fits r p a g =
     let invalid1 = not-valid (row-of (r .call) .path1) (r .path1) in
     let invalid2 = not-valid (row-of (r .call) .path2) (r .path2) in
     record {
-      call = omega (arith, leb-true (r .call) 13 (and-right (leb 1 (r .call)) (leb (r .call) 13) (f .known-call)));
+      call = omega (arith, known-within (r .call) (f .known-call));
       process = p;
       argument = a;
       path1 = path-within (row-of (r .call) .path1) (r .path1) (f .path1) (neither-left invalid1 invalid2 (y .missed));

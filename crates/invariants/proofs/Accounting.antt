@@ -1,20 +1,20 @@
 -- How many entry rows are used after a call: one more after an accepted creation, one less after an accepted removal, and else as many.
 -- Assumes nothing.
 use mathlib.Core.Path.{_≡_, refl, sym, _∙_}
-use mathlib.Core.Bool.{Bool, true, false, not, _&&_, _||_}
+use mathlib.Core.Bool.{Bool, true, false, not, _&&_}
 use mathlib.Core.Logic.{_≢_}
 use mathlib.Core.List.{List}
 use mathlib.Core.Option.{some}
 use Prim.Native.Nat.{ℕ, _+_}
 use native.Mathlib.Omega.{arith}
 use borrow.Author.Tests.{eqb-true, eqb-false, ne-eqb}
-use lib.Dec.{eqb, leb}
+use lib.Dec.{eqb}
 use Rattle.model.specs.Lists.{any, count, put, clear}
 use Rattle.model.specs.Refusals.{granted}
 use Rattle.model.specs.Paths.{valid-path}
 use Rattle.model.specs.Tables.{Place, Entry, Hold, Tables, no-entry, free-entry, at, lookup}
 use Rattle.model.specs.Sound.{same-entry}
-use Rattle.model.specs.Records.{Call, calls, row-of}
+use Rattle.model.specs.Records.{Call, Effect, one-more-entry, one-entry-less, own-rule, entries-stay, calls, row-of}
 use Rattle.model.specs.Walk.{Goal}
 use Rattle.model.specs.Calls.{Change, step, absent, no-free-entry, add-entry, drop-entry, with-entry, without-entry}
 use Rattle.laws.proofs.Bools.{and-left, not-false}
@@ -28,12 +28,24 @@ use Rattle.invariants.proofs.Goals.{goal-arrives, Stops-at, stops-at-ab
 unfoldable pub used-entries : Tables → ℕ
 used-entries t = count (λ e. not (free-entry e)) (t .entries)
 
--- calls 8 to 11 make an entry, calls 12 and 13 remove one
+-- the calls that make an entry, and those that remove one, by the table of calls
+unfoldable pub makes-entry : Effect → Bool
+makes-entry one-more-entry = true
+makes-entry one-entry-less = false
+makes-entry own-rule = false
+makes-entry entries-stay = false
+
+unfoldable pub removes-entry : Effect → Bool
+removes-entry one-more-entry = false
+removes-entry one-entry-less = true
+removes-entry own-rule = false
+removes-entry entries-stay = false
+
 unfoldable pub is-creation : ℕ → Bool
-is-creation call = leb 8 call && leb call 11
+is-creation call = makes-entry (row-of call .effect)
 
 unfoldable pub is-removal : ℕ → Bool
-is-removal call = eqb call 12 || eqb call 13
+is-removal call = removes-entry (row-of call .effect)
 
 -- ENTRIES ADDED AND REMOVED
 
@@ -123,7 +135,7 @@ module _ (t : Tables) (order : In-order t) (r : Call) (proper : Proper r) (c : C
   saw-as-many p g (held way room gives) = as-many _ (gives .tables) refl
 
   by-case : Step t r c → Accounts t (c .tables) (r .call)
-  unfolding is-removal is-creation row-of calls
+  unfolding is-removal is-creation removes-entry makes-entry row-of calls
   by-case (by-enter n is) = rw n (neither t (c .tables) 1 refl refl (as-many _ (is .gives .tables) refl))
   by-case (by-fork n is) = rw n (neither t (c .tables) 2 refl refl (as-many _ (is .gives .tables) refl))
   by-case (by-exec n is) = rw n (neither t (c .tables) 3 refl refl (as-many _ (is .gives .tables) refl))

@@ -11,26 +11,24 @@ use lib.Dec.{eqb, leb}
 use lib.ListN.{length}
 use Rattle.model.specs.Lists.{any, count, first, put}
 use Rattle.model.specs.Paths.{valid-path}
-use Rattle.model.specs.Tables.{Place, Entry, Node, Hold, Tables, a-directory, no-hold, no-node, free-entry, free-node, free-hold, node-at, is-directory, lookup}
+use Rattle.model.specs.Tables.{Place, Entry, Node, Tables, a-directory, no-node, free-entry, free-node, node-at, is-directory, lookup, entry-rows}
 use Rattle.model.specs.Sound.{leading-to, count-fits, target-fits}
 use Rattle.model.specs.Records.{Call}
 use Rattle.model.specs.Walk.{Goal}
-use Rattle.model.specs.Holds.{add-holds, drop-holds, overruled}
-use Rattle.model.specs.Calls.{Change, absent, blocked, no-free-entry, no-free-node, new-node, set-node, add-entry, one-more, after-overruling, with-entry}
+use Rattle.model.specs.Holds.{overruled, taking, wanted}
+use Rattle.model.specs.Calls.{Change, absent, blocked, no-free-entry, no-free-node, new-node, set-node, add-entry, one-more, with-entry}
 use Rattle.laws.proofs.Bools.{clash, is-false, not-false}
-use Rattle.laws.proofs.Each.{each-put, each-clear}
+use Rattle.laws.proofs.Each.{each-put}
 use Rattle.laws.proofs.Members.{_∈_, each-in}
-use Rattle.laws.proofs.Rules.{count-none, count-within, first-at, length-put, length-put-all, length-clear}
-use Rattle.invariants.proofs.Cases.{new-holds, Made, Linked}
-use Rattle.invariants.proofs.Rows.{used-in-range, node-in, directory-used, length-set-node}
-use Rattle.invariants.proofs.Soundness.{Holding}
-use Rattle.invariants.proofs.Words.{Entry-fits, Node-fits, Target-fits, no-hold-fits}
+use Rattle.laws.proofs.Rules.{count-none, count-within, first-at, length-put}
+use Rattle.invariants.proofs.Cases.{Made, Linked}
+use Rattle.invariants.proofs.Rows.{used-in-range, node-in, directory-used}
+use Rattle.laws.proofs.Words.{Entry-fits, Node-fits, Target-fits}
 use Rattle.invariants.proofs.Walks.{Stands, Arrived}
-use Rattle.invariants.proofs.Holdings.{drop-fewer, holding-fewer, holding-still, holding-taken}
 use Rattle.invariants.proofs.Lookups.{lookup-used}
 use Rattle.invariants.proofs.EntryAdded.{Room-for, still-directory, tree-more}
-use Rattle.invariants.proofs.Order.{In-order, Proper, Caller, caller-of}
-use Rattle.invariants.proofs.Goals.{Valid, valid-fits, goal-arrives, Stops-at, stops-at-absence, stops-at-file, met-stands, wanted-right, taken-fit, nodes-fit-set}
+use Rattle.invariants.proofs.Order.{In-order, same-processes, Proper, Caller, caller-of}
+use Rattle.invariants.proofs.Goals.{Valid, valid-fits, goal-arrives, Stops-at, stops-at-absence, stops-at-file, holding-after, taken-kept, node-set-kept}
 use Rattle.invariants.proofs.InTheWay.{entry-ours}
 
 -- WHAT CREATIONS SHARE
@@ -48,9 +46,6 @@ module _ (t : Tables) (order : In-order t) (p : ℕ) (caller : Caller (t .proces
   nodes : List Node
   nodes = set-node n x (t .nodes)
 
-  left : List Hold
-  left = after-overruling t p g
-
   entry-fits : Entry-fits (record { place = q; node = n })
   entry-fits =
       let range = used-in-range (t .nodes) (q .directory) (directory-used (t .nodes) (q .directory) (stop .stands .directory)) in
@@ -67,49 +62,22 @@ module _ (t : Tables) (order : In-order t) (p : ℕ) (caller : Caller (t .proces
   unfolding nodes
   still = still-directory (t .entries) (t .nodes) (order .sound .tree) q n x room
 
-  holding-after : Holding nodes (t .processes) (add-holds (new-holds t p g) left)
-  unfolding left after-overruling
-  holding-after =
-      holding-taken t p g nodes left
-      (holding-still (t .nodes) nodes (t .processes) (t .processes) left
-      (holding-fewer (t .nodes) (t .processes) (overruled t p g) (t .holds) (order .sound .holding))
-      (λ h m used.
-      let right = order .sound .holding .right h (drop-fewer (overruled t p g) (t .holds) h m used) used in
-      record { directory = still (h .place .directory) (right .in-directory); holder = right .holder; user = refl }))
-      (drop-fewer (overruled t p g) (t .holds))
-      (λ h w. wanted-right t order p caller g arrived h w nodes
-      (still (h .place .directory) (met-stands t g arrived (h .place) (w .met) .directory)))
-      (entry-ours t p g way)
-
   entries-after : add-entry (g .end) n (t .entries) ≡ put free-entry (record { place = q; node = n }) (t .entries)
   unfolding add-entry
   entries-after = ap (λ (e : Option Place). add-entry e n (t .entries)) (stop .at-end)
 
-  pub with-entry-order : In-order (with-entry t p g n x (new-holds t p g))
-  unfolding with-entry after-overruling drop-holds add-holds nodes left
+  pub with-entry-order : In-order (with-entry t p g n x)
+  unfolding with-entry nodes
   with-entry-order =
-      record {
-        sound =
-            record {
-              tree = rw entries-after (tree-more (t .entries) (t .nodes) (order .sound .tree) q n x room);
-              holding = holding-after;
-              distinct-processes = order .sound .distinct-processes;
-            };
-        fits =
-            record {
-              entries-full =
-                  ap length entries-after ∙ length-put free-entry (record { place = q; node = n }) (t .entries) ∙ order .fits .entries-full;
-              nodes-full = length-set-node (t .nodes) n x ∙ order .fits .nodes-full;
-              holds-full =
-                  length-put-all free-hold (new-holds t p g) left ∙ length-clear (overruled t p g) no-hold (t .holds)
-                  ∙ order .fits .holds-full;
-              processes-full = order .fits .processes-full;
-              entries-fit = rw entries-after (each-put free-entry (order .fits .entries-fit) entry-fits);
-              nodes-fit = nodes-fit-set (t .nodes) n x (order .fits .nodes-fit) fits;
-              holds-fit = taken-fit t order p caller g arrived left (each-clear (overruled t p g) (order .fits .holds-fit) no-hold-fits);
-              processes-fit = order .fits .processes-fit;
-            };
-      }
+      same-processes t (add-entry (g .end) n (t .entries)) nodes (taking t (wanted p g) (overruled t p g)) order
+      (rw entries-after (tree-more (t .entries) (t .nodes) (order .sound .tree) q n x room))
+      (holding-after t order p caller g arrived nodes (overruled t p g) (λ h m used kept. still (h .place .directory)) (λ q met. still (q .directory))
+      (entry-ours t p g way))
+      (record {
+        as-many = ap length entries-after ∙ length-put free-entry (record { place = q; node = n }) (t .entries);
+        fit = rw entries-after (each-put free-entry (order .fits .entries-fit) entry-fits);
+      })
+      (node-set-kept t order n x fits) (taken-kept t order p caller g arrived (overruled t p g))
 
 -- 8 TO 10, CREATE, MKDIR AND SYMLINK
 
@@ -204,7 +172,7 @@ file-used t order g arrived there no-directory =
 -- one entry more may lead to a used node that is no directory
 module _ (t : Tables) (order : In-order t) (n : ℕ) (used : free-node (node-at (t .nodes) n) ≡ false)
     (no-directory : is-directory (t .nodes) n ≡ false) where
-  few : node-at (t .nodes) n .count ≤ 512
+  few : node-at (t .nodes) n .count ≤ entry-rows
   unfolding leading-to
   few =
       let within = count-within (λ (e : Entry). eqb (e .node) n) (t .entries) in

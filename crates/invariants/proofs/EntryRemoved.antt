@@ -52,9 +52,6 @@ fits-with-less n x not-top fits many = rw (ne-eqb n 1 not-top) (go (eqb (x .kind
 
 module _ (entries : List Entry) (nodes : List Node) (tree : Tree entries nodes) (q : Place) (n : ℕ)
     (gone : Removable entries nodes q n) where
-  the-node : Node
-  the-node = node-at nodes n
-
   left : List Entry
   left = clear (at q) no-entry entries
 

@@ -1,6 +1,6 @@
 -- Where a walk over tables in order stops: every place that it meets is in a directory and has a valid name, so that a hold on it is right
 -- and fits. Assumes nothing.
-use mathlib.Core.Path.{_≡_, refl}
+use mathlib.Core.Path.{_≡_, refl, _∙_}
 use mathlib.Core.Bool.{Bool, true, false, not, _&&_, _||_, true≢false, false≢true}
 use mathlib.Core.Logic.{_≢_}
 use mathlib.Core.List.{List, [], _∷_}
@@ -12,23 +12,25 @@ use lib.Dec.{eqb, leb}
 use lib.ListN.{length}
 use Rattle.model.specs.Lists.{same, empty, all}
 use Rattle.model.specs.Refusals.{granted}
-use Rattle.model.specs.Paths.{Name, slash, dot, before, parts, names-behind, names, absolute, name-byte, valid-name, valid-path, valid-target}
-use Rattle.model.specs.Tables.{Place, Entry, Node, Hold, Tables, a-file, a-directory, a-link, end-role, element-role, free-node, free-hold, node-at, is-directory, lookup, listed}
+use Rattle.model.specs.Paths.{Name, slash, dot, before, parts, names-behind, names, absolute, name-byte, valid-name, valid-path, valid-target, longest-name, longest-path, longest-target, valid-names}
+use Rattle.model.specs.Tables.{Place, Entry, Node, Hold, Tables, no-hold, a-file, a-directory, a-link, end-role, element-role, free-node, free-hold, node-at, is-directory, lookup, listed}
 use Rattle.model.specs.Sound.{target-fits}
 use Rattle.model.specs.Walk.{Goal, Found, nothing, file, directory, link, found-node, found, walk}
-use Rattle.model.specs.Holds.{add-holds}
+use Rattle.model.specs.Holds.{add-holds, drop-holds, taking, wanted}
 use Rattle.model.specs.Calls.{set-node, at-root}
 use Rattle.laws.proofs.Bools.{clash, and-left, and-right}
-use Rattle.laws.proofs.Each.{Each, none, one, each-at, each-set, each-put-all, passes-each}
-use Rattle.laws.proofs.Members.{each-in, in-each}
+use Rattle.laws.proofs.Each.{Each, none, one, each-at, each-set, each-put-all, each-clear, passes-each}
+use Rattle.laws.proofs.Members.{_∈_, each-in, in-each}
 use Rattle.laws.proofs.Pieces.{Byte}
 use Rattle.invariants.proofs.Cases.{new-holds}
-use Rattle.invariants.proofs.Rows.{used-in-range, node-in, directory-used}
-use Rattle.invariants.proofs.Soundness.{Right-hold}
-use Rattle.invariants.proofs.Words.{Name-fits, Node-fits, Hold-fits, no-node-fits}
-use Rattle.invariants.proofs.Order.{In-order, Caller}
+use Rattle.laws.proofs.Rules.{length-put-all, length-clear}
+use Rattle.invariants.proofs.Rows.{used-in-range, node-in, directory-used, length-set-node}
+use Rattle.invariants.proofs.Soundness.{Holding, Right-hold}
+use Rattle.laws.proofs.Words.{Name-fits, Node-fits, Hold-fits, no-node-fits, no-hold-fits}
+use Rattle.invariants.proofs.Order.{In-order, Rows-kept, Caller}
 use Rattle.invariants.proofs.Walks.{Stands, Stopped, Arrived, walk-arrives, directory-not-zero}
-use Rattle.invariants.proofs.Holdings.{Met, element, end, Wanted-hold, new-wanted}
+use Rattle.invariants.proofs.Holdings.{Met, element, end, Wanted-hold, new-wanted, from-drop, holding-fewer, holding-still, holding-taken}
+use Rattle.invariants.proofs.InTheWay.{Ends-ours}
 
 -- NAMES
 
@@ -42,12 +44,12 @@ unfolding valid-name
 valid-fits n v =
     record {
       short =
-          leb-true (length n) 14
-          (and-right (leb 1 (length n)) (leb (length n) 14)
+          leb-true (length n) longest-name
+          (and-right (leb 1 (length n)) (leb (length n) longest-name)
           (and-left (leb 1 (length n) && leb (length n) 14) (all name-byte n)
-          (and-left (leb 1 (length n) && leb (length n) 14 && all name-byte n) (not (same n (dot ∷ [])))
+          (and-left (leb 1 (length n) && leb (length n) longest-name && all name-byte n) (not (same n (dot ∷ [])))
           (and-left
-          (leb 1 (length n) && leb (length n) 14 && all name-byte n && not (same n (dot ∷ [])))
+          (leb 1 (length n) && leb (length n) longest-name && all name-byte n && not (same n (dot ∷ [])))
           (not (same n (dot ∷ dot ∷ []))) (v .valid)))));
       bytes = v .bytes;
     }
@@ -74,8 +76,8 @@ names-bytes (b ∷ s) (one p ps) = go (eqb b slash) s ps (parts-bytes (b ∷ s) 
     go true (a ∷ s) qs v = parts-bytes (a ∷ s) qs
     go false s qs v = v
 
-valid-names : (s : List ℕ) → Each Byte s → all valid-name (names s) ≡ true → Each Valid (names s)
-valid-names s bytes v = both-of (names s) (passes-each valid-name (names s) v) (names-bytes s bytes)
+each-valid : (s : List ℕ) → Each Byte s → valid-names s ≡ true → Each Valid (names s)
+each-valid s bytes v = both-of (names s) (passes-each valid-name (names s) v) (names-bytes s bytes)
   where
     both-of : (ns : List Name) → Each (λ n. valid-name n ≡ true) ns → Each (Each Byte) ns → Each Valid ns
     both-of [] none none = none
@@ -83,11 +85,11 @@ valid-names s bytes v = both-of (names s) (passes-each valid-name (names s) v) (
 
 pub path-names : (s : List ℕ) → Each Byte s → valid-path s ≡ true → Each Valid (names s)
 unfolding valid-path
-path-names s bytes v = valid-names s bytes (and-right (leb 1 (length s) && leb (length s) 255 && absolute s) (all valid-name (names s)) v)
+path-names s bytes v = each-valid s bytes (and-right (leb 1 (length s) && leb (length s) longest-path && absolute s) (valid-names s) v)
 
 target-names : (s : List ℕ) → Each Byte s → valid-target s ≡ true → Each Valid (names s)
 unfolding valid-target
-target-names s bytes v = valid-names s bytes (and-right (leb 1 (length s) && leb (length s) 64) (all valid-name (names s)) v)
+target-names s bytes v = each-valid s bytes (and-right (leb 1 (length s) && leb (length s) longest-target) (valid-names s) v)
 
 -- WALKS
 
@@ -119,15 +121,18 @@ found-target entries nodes q n s = go (eqb at 0) (eqb (x .kind) a-file) (eqb (x 
     go false false true f = let z : _≡_ {A = ℕ} 0 1 = cc in absurd (omega arith)
     go false false false f = cc
 
-node-fits : (nodes : List Node) (n : ℕ) → Each Node-fits nodes → Node-fits (node-at nodes n)
+pub node-fits : (nodes : List Node) (n : ℕ) → Each Node-fits nodes → Node-fits (node-at nodes n)
 unfolding node-at
 node-fits nodes zero fits = no-node-fits
 node-fits nodes (suc n) fits = each-at fits no-node-fits n
 
-pub nodes-fit-set : (nodes : List Node) (n : ℕ) (x : Node) → Each Node-fits nodes → Node-fits x → Each Node-fits (set-node n x nodes)
+pub node-set-kept : (t : Tables) → In-order t → (n : ℕ) (x : Node) → Node-fits x → Rows-kept Node-fits (t .nodes) (set-node n x (t .nodes))
 unfolding set-node
-nodes-fit-set nodes zero x fits f = fits
-nodes-fit-set nodes (suc n) x fits f = each-set n fits f
+node-set-kept t order n x f = record { as-many = length-set-node (t .nodes) n x; fit = go n }
+  where
+    go : (m : ℕ) → Each Node-fits (set-node m x (t .nodes))
+    go zero = order .fits .nodes-fit
+    go (suc m) = each-set m (order .fits .nodes-fit) f
 
 module _ (t : Tables) (order : In-order t) where
   -- the names of a node's target
@@ -243,10 +248,33 @@ module _ (t : Tables) (order : In-order t) (p : ℕ) (caller : Caller (t .proces
       small true e f = let i = eqb-true (h .role) end-role e in omega arith
       small false e f = let i = eqb-true (h .role) element-role f in omega arith
 
--- what a call takes fits, and so do the holds with it
-pub taken-fit : (t : Tables) → In-order t → (p : ℕ) → Caller (t .processes) p → (g : Goal) → Arrived Valid (t .entries) (t .nodes) g →
-    (left : List Hold) → Each Hold-fits left → Each Hold-fits (add-holds (new-holds t p g) left)
-unfolding add-holds
-taken-fit t order p caller g arrived left fits =
-    each-put-all free-hold
-    (in-each (new-holds t p g) (λ h m. wanted-fits t order p caller g arrived h (new-wanted t p g h m))) fits
+-- The call of process p takes what it lacks, after drops: the holds that stay and the places met are in directories of the nodes after it.
+pub holding-after : (t : Tables) → In-order t → (p : ℕ) → Caller (t .processes) p → (g : Goal) → Arrived Valid (t .entries) (t .nodes) g →
+    (nodes : List Node) (gone : Hold → Bool) →
+    ((h : Hold) → h ∈ t .holds → free-hold h ≡ false → gone h ≡ false → is-directory (t .nodes) (h .place .directory) ≡ true →
+    is-directory nodes (h .place .directory) ≡ true) →
+    ((q : Place) → Met g q → is-directory (t .nodes) (q .directory) ≡ true → is-directory nodes (q .directory) ≡ true) → Ends-ours t p g gone →
+    Holding nodes (t .processes) (taking t (wanted p g) gone)
+holding-after t order p caller g arrived nodes gone stay met clean =
+    holding-taken t p g nodes gone
+    (holding-still (t .nodes) nodes (t .processes) (t .processes) (drop-holds gone (t .holds))
+    (holding-fewer (t .nodes) (t .processes) gone (t .holds) (order .sound .holding))
+    (λ h m used.
+    let was = from-drop gone (t .holds) h m used in
+    let right = order .sound .holding .right h (was .0) used in
+    record { directory = stay h (was .0) used (was .1) (right .in-directory); holder = right .holder; user = refl }))
+    (λ h w. wanted-right t order p caller g arrived h w nodes (met (h .place) (w .met) (met-stands t g arrived (h .place) (w .met) .directory)))
+    clean
+
+-- what a call takes fits, and so do the holds with it, in as many rows
+pub taken-kept : (t : Tables) → In-order t → (p : ℕ) → Caller (t .processes) p → (g : Goal) → Arrived Valid (t .entries) (t .nodes) g →
+    (gone : Hold → Bool) → Rows-kept Hold-fits (t .holds) (taking t (wanted p g) gone)
+unfolding taking add-holds drop-holds
+taken-kept t order p caller g arrived gone =
+    record {
+      as-many = length-put-all free-hold (new-holds t p g) (drop-holds gone (t .holds)) ∙ length-clear gone no-hold (t .holds);
+      fit =
+          each-put-all free-hold
+          (in-each (new-holds t p g) (λ h m. wanted-fits t order p caller g arrived h (new-wanted t p g h m)))
+          (each-clear gone (order .fits .holds-fit) no-hold-fits);
+    }

@@ -12,13 +12,13 @@ use Rattle.model.specs.Lists.{any}
 use Rattle.model.specs.Tables.{Place, Node, Hold, Process, Tables, end-role, element-role, no-hold, free-hold, is-directory, listed, user-of}
 use Rattle.model.specs.Sound.{same-hold, is-end}
 use Rattle.model.specs.Walk.{Goal}
-use Rattle.model.specs.Holds.{hold-by, end-wanted, wanted, lacking, add-holds, drop-holds}
+use Rattle.model.specs.Holds.{hold-by, end-wanted, wanted, lacking, add-holds, drop-holds, taking}
 use Rattle.laws.proofs.Bools.{clash, is-false}
 use Rattle.laws.proofs.Members.{_∈_, here, there, in-nothing, in-none, from-append, from-map, from-clear, from-put-all}
-use Rattle.laws.proofs.Places.{same-hold-equal}
+use Rattle.laws.proofs.Places.{same-hold-turned, free-together}
 use Rattle.laws.proofs.Rules.{distinct-clear, distinct-put-all, Apart, none-new, one-new, apart-kept}
 use Rattle.invariants.proofs.Cases.{new-holds}
-use Rattle.invariants.proofs.Rows.{same-hold-turned, like-no-hold}
+use Rattle.invariants.proofs.Rows.{like-no-hold}
 use Rattle.invariants.proofs.Soundness.{Right-hold, Holding}
 use Rattle.invariants.proofs.Walks.{directory-not-zero}
 
@@ -178,25 +178,29 @@ unfolding free-hold
 fewer-apart holds left news fewer used apart = apart-kept free-hold same-hold left (λ n x i m. go n x (used n i) m (free-hold x) refl) apart
   where
     go : (n x : Hold) → free-hold n ≡ false → x ∈ left → (b : Bool) → free-hold x ≡ b → (x ∈ holds) ⊎ (same-hold n x ≡ false)
-    go n x u m true e = inr (is-false (same-hold n x) (λ s. clash (rw (same-hold-equal n x s) e) u))
+    go n x u m true e = inr (is-false (same-hold n x) (λ s. clash (free-together n x s ∙ e) u))
     go n x u m false e = inl (fewer x m e)
 
--- The call of process p takes what it lacks for goal g, after drops that leave `left`: every place met is in a directory, and the end holds
--- left on the end entry are of p's user.
-pub holding-taken : (t : Tables) (p : ℕ) (g : Goal) (nodes : List Node) (left : List Hold) → Holding nodes (t .processes) left →
-    Fewer left (t .holds) → ((h : Hold) → Wanted-hold p g h → Right-hold nodes (t .processes) h) →
-    ((k : Hold) → k ∈ left → free-hold k ≡ false → is-end k ≡ true → g .end ≡ some (k .place) →
+-- The call of process p takes what it lacks for goal g, after drops: every place met is in a directory, and the end holds left on the end
+-- entry are of p's user.
+pub holding-taken : (t : Tables) (p : ℕ) (g : Goal) (nodes : List Node) (gone : Hold → Bool) →
+    Holding nodes (t .processes) (drop-holds gone (t .holds)) → ((h : Hold) → Wanted-hold p g h → Right-hold nodes (t .processes) h) →
+    ((k : Hold) → k ∈ t .holds → gone k ≡ false → free-hold k ≡ false → is-end k ≡ true → g .end ≡ some (k .place) →
     user-of (t .processes) p ≡ user-of (t .processes) (k .process)) →
-    Holding nodes (t .processes) (add-holds (new-holds t p g) left)
-holding-taken t p g nodes left s fewer right clean =
+    Holding nodes (t .processes) (taking t (wanted p g) gone)
+unfolding taking
+holding-taken t p g nodes gone s right clean =
+    let left = drop-holds gone (t .holds) in
     holding-more nodes (t .processes) p (new-holds t p g) left
-    (fewer-apart (t .holds) left (new-holds t p g) fewer (λ h m. right-used nodes (t .processes) h (right h (new-wanted t p g h m)))
+    (fewer-apart (t .holds) left (new-holds t p g) (drop-fewer gone (t .holds)) (λ h m. right-used nodes (t .processes) h (right h (new-wanted t p g h m)))
     (lacking-apart (wanted p g) (t .holds)))
     (λ h m.
     let w = new-wanted t p g h m in
     record {
       process = w .process;
       right = right h w;
-      user = λ k i used end-h end-k same. clean k i used end-k (w .end end-h ∙ ap some same);
+      user = λ k i used end-h end-k same.
+          let was = from-drop gone (t .holds) k i used in
+          clean k (was .0) (was .1) used end-k (w .end end-h ∙ ap some same);
     })
     s

@@ -2,7 +2,6 @@
 -- Assumes nothing.
 use mathlib.Core.Path.{_≡_, refl, sym}
 use mathlib.Core.Bool.{Bool, true, false, not, _&&_, _||_, true≢false}
-use mathlib.Core.List.{List}
 use mathlib.Core.Option.{some}
 use Prim.Native.Nat.{ℕ}
 use borrow.Author.Tests.{eqb-true}
@@ -10,17 +9,16 @@ use lib.Dec.{eqb}
 use Rattle.model.specs.Tables.{Hold, Tables, free-hold, user-of}
 use Rattle.model.specs.Sound.{is-end}
 use Rattle.model.specs.Walk.{Goal}
-use Rattle.model.specs.Holds.{root, foreign, on, end-held, entry-held, inside-held, drop-holds, preempted, overruled}
-use Rattle.model.specs.Calls.{blocked, directory-blocked, after-overruling}
+use Rattle.model.specs.Holds.{root, foreign, on, end-held, entry-held, inside-held, preempted, overruled}
+use Rattle.model.specs.Calls.{blocked, directory-blocked}
 use Rattle.laws.proofs.Bools.{clash}
 use Rattle.laws.proofs.Members.{_∈_, in-any}
 use Rattle.laws.proofs.Places.{same-place-self}
-use Rattle.invariants.proofs.Holdings.{from-drop}
 
--- the end holds left on the end entry are of process p's user
-abbrev pub Ends-ours : Tables → ℕ → Goal → List Hold → Type 0
-Ends-ours t p g left =
-    (k : Hold) → k ∈ left → free-hold k ≡ false → is-end k ≡ true → g .end ≡ some (k .place) →
+-- the end holds on the end entry that are not gone are of process p's user
+abbrev pub Ends-ours : Tables → ℕ → Goal → (Hold → Bool) → Type 0
+Ends-ours t p g gone =
+    (k : Hold) → k ∈ t .holds → gone k ≡ false → free-hold k ≡ false → is-end k ≡ true → g .end ≡ some (k .place) →
     user-of (t .processes) p ≡ user-of (t .processes) (k .process)
 
 -- a hold that is not of another user is of the caller's
@@ -49,23 +47,21 @@ not-in-the-way false way gone w d false held drops = refl
 
 module _ (t : Tables) (p : ℕ) (g : Goal) where
   -- check, look and use that hold
-  pub held-ours : (end-held t p g && not (root t p)) ≡ false → Ends-ours t p g (drop-holds (preempted t p g) (t .holds))
+  pub held-ours : (end-held t p g && not (root t p)) ≡ false → Ends-ours t p g (preempted t p g)
   unfolding end-held preempted
-  held-ours way k m used end-k at-end =
-      let was = from-drop (preempted t p g) (t .holds) k m used in
+  held-ours way k m kept used end-k at-end =
       ours t p k used
-      (not-in-the-way (root t p) (end-held t p g) (preempted t p g k) way (was .1) (foreign t p k)
-      (λ f. in-any (λ h. is-end h && on (g .end) h && foreign t p h) (was .0) (simp (end-k, on-end g k at-end, f)))
+      (not-in-the-way (root t p) (end-held t p g) (preempted t p g k) way kept (foreign t p k)
+      (λ f. in-any (λ h. is-end h && on (g .end) h && foreign t p h) m (simp (end-k, on-end g k at-end, f)))
       (λ r f. simp (r, end-k, on-end g k at-end, f)))
 
   -- creation and removal
-  pub entry-ours : blocked t p g ≡ false → Ends-ours t p g (after-overruling t p g)
-  unfolding blocked entry-held overruled after-overruling
-  entry-ours way k m used end-k at-end =
-      let was = from-drop (overruled t p g) (t .holds) k m used in
+  pub entry-ours : blocked t p g ≡ false → Ends-ours t p g (overruled t p g)
+  unfolding blocked entry-held overruled
+  entry-ours way k m kept used end-k at-end =
       ours t p k used
-      (not-in-the-way (root t p) (entry-held t p g) (overruled t p g k) way (was .1) (foreign t p k)
-      (λ f. in-any (λ h. on (g .end) h && foreign t p h) (was .0) (simp (on-end g k at-end, f))) (λ r f. simp (r, on-end g k at-end, f)))
+      (not-in-the-way (root t p) (entry-held t p g) (overruled t p g k) way kept (foreign t p k)
+      (λ f. in-any (λ h. on (g .end) h && foreign t p h) m (simp (on-end g k at-end, f))) (λ r f. simp (r, on-end g k at-end, f)))
 
   -- rmdir asks for more than other removals
   pub directory-way : directory-blocked t p g ≡ false → blocked t p g ≡ false

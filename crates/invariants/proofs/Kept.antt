@@ -18,9 +18,9 @@ use Rattle.model.specs.declared.Answer.the-variants.{Refused}
 use Rattle.laws.proofs.Each.{Each, none, one}
 use Rattle.laws.proofs.Pieces.{Byte}
 use Rattle.laws.proofs.Rules.{one-if}
-use Rattle.invariants.proofs.Soundness.{sound-facts, facts-sound}
-use Rattle.invariants.proofs.Words.{Fits, packed-sound, unpack-pack}
-use Rattle.invariants.proofs.Order.{Proper}
+use Rattle.invariants.proofs.Soundness.{sound-facts}
+use Rattle.laws.proofs.Words.{Fits, packed-sound, unpack-pack}
+use Rattle.invariants.proofs.Order.{order-sound, Proper}
 use Rattle.invariants.proofs.Steps.{step-keeps, fresh-in-order}
 use Rattle.invariants.proofs.Accounting.{used-entries, is-creation, is-removal, Accounts, step-accounts}
 use Rattle.invariants.specs.Accepts.{accepts}
@@ -33,7 +33,7 @@ pub sound-rows-kept : (t : Tables) (r : Call) (c : Change) → sound-rows t ≡ 
     (sound-rows (c .tables) ≡ true) × Fits (c .tables)
 sound-rows-kept t r c before fits proper e =
     let order = step-keeps t (record { sound = sound-facts t before; fits = fits }) r proper c e in
-    (facts-sound (c .tables) (order .sound), order .fits)
+    (order-sound (c .tables) order, order .fits)
 
 -- ONE RECORD
 
@@ -78,7 +78,7 @@ run-keeps-sound w (s ∷ rest) (one b bytes) before = run-keeps-sound (serve w s
 -- Fresh tables are sound words.
 pub fresh-words-sound : sound fresh-words ≡ true
 unfolding fresh-words
-fresh-words-sound = packed-sound (fresh-in-order .fits) (facts-sound fresh (fresh-in-order .sound))
+fresh-words-sound = packed-sound (fresh-in-order .fits) (order-sound fresh fresh-in-order)
 
 -- Whatever records are served since fresh tables, the words are sound.
 pub sound-since-fresh : (records : List (List ℕ)) → Each (Each Byte) records → sound (after fresh-words records) ≡ true

@@ -1,4 +1,3 @@
-pub mod Words
 pub mod Heads
 pub mod Records
 pub mod Accepted

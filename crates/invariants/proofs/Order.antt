@@ -1,5 +1,5 @@
 -- Tables in order: sound, and within the widths of the words that hold them. Calls in order: those that reading accepts. Assumes nothing.
-use mathlib.Core.Path.{_≡_, _∙_}
+use mathlib.Core.Path.{_≡_, refl, _∙_}
 use mathlib.Core.Bool.{true, false}
 use mathlib.Core.Logic.{_≢_}
 use mathlib.Core.List.{List}
@@ -8,16 +8,16 @@ use borrow.Author.Tests.{eqb-false}
 use lib.ListN.{length}
 use Rattle.model.specs.Lists.{distinct}
 use Rattle.model.specs.Paths.{valid-path, valid-target}
-use Rattle.model.specs.Tables.{Hold, Process, Tables, free-process, listed}
-use Rattle.model.specs.Sound.{same-process}
+use Rattle.model.specs.Tables.{Entry, Node, Hold, Process, Tables, free-process, listed, with-entries, with-nodes, with-holds, with-processes}
+use Rattle.model.specs.Sound.{same-process, sound-rows}
 use Rattle.model.specs.Records.{Call, path, target, row-of, not-valid, fields-broken, paths-broken}
-use Rattle.model.specs.Calls.{unlisted, with-holds-and-processes}
+use Rattle.model.specs.Calls.{unlisted}
 use Rattle.laws.proofs.Bools.{neither-left, neither-right, not-false}
 use Rattle.laws.proofs.Each.{Each}
 use Rattle.laws.proofs.Pieces.{Byte}
-use Rattle.invariants.proofs.Accepted.{fields-right}
-use Rattle.invariants.proofs.Soundness.{Holding, Sound}
-use Rattle.invariants.proofs.Words.{Hold-fits, Process-fits, Fits}
+use Rattle.invariants.proofs.Accepted.{fields-right, made-by-process}
+use Rattle.invariants.proofs.Soundness.{Tree, Holding, Sound, facts-sound}
+use Rattle.laws.proofs.Words.{Entry-fits, Node-fits, Hold-fits, Process-fits, Fits}
 
 -- TABLES
 
@@ -25,25 +25,54 @@ pub record In-order (t : Tables) : Type 0 where
   pub sound : Sound t
   pub fits : Fits t
 
--- a change of holds and processes alone keeps tables in order, where it keeps the rules for these and the widths
-pub same-tree : (t : Tables) (holds : List Hold) (processes : List Process) → In-order t → Holding (t .nodes) processes holds →
-    distinct free-process same-process processes ≡ true → length holds ≡ length (t .holds) → length processes ≡ length (t .processes) →
-    Each Hold-fits holds → Each Process-fits processes → In-order (with-holds-and-processes t holds processes)
-same-tree t holds processes order holding distinct-processes as-many-holds as-many-processes holds-fit processes-fit =
+-- the rows of one table after a change: as many as before, and within their widths
+pub record Rows-kept {A : Type 0} (Row-fits : A → Type 0) (before after : List A) : Type 0 where
+  pub as-many : length after ≡ length before
+  pub fit : Each Row-fits after
+
+pub rows-same : {A : Type 0} {Row-fits : A → Type 0} {rows : List A} → Each Row-fits rows → Rows-kept Row-fits rows rows
+rows-same fit = record { as-many = refl; fit = fit }
+
+-- a change keeps tables in order, where it keeps the rules and the rows of each table
+pub still-in-order : (t u : Tables) → In-order t → Sound u → Rows-kept Entry-fits (t .entries) (u .entries) → Rows-kept Node-fits (t .nodes) (u .nodes) →
+    Rows-kept Hold-fits (t .holds) (u .holds) → Rows-kept Process-fits (t .processes) (u .processes) → In-order u
+still-in-order t u order sound entries nodes holds processes =
     record {
-      sound = record { tree = order .sound .tree; holding = holding; distinct-processes = distinct-processes };
+      sound = sound;
       fits =
           record {
-            entries-full = order .fits .entries-full;
-            nodes-full = order .fits .nodes-full;
-            holds-full = as-many-holds ∙ order .fits .holds-full;
-            processes-full = as-many-processes ∙ order .fits .processes-full;
-            entries-fit = order .fits .entries-fit;
-            nodes-fit = order .fits .nodes-fit;
-            holds-fit = holds-fit;
-            processes-fit = processes-fit;
+            entries-full = entries .as-many ∙ order .fits .entries-full;
+            nodes-full = nodes .as-many ∙ order .fits .nodes-full;
+            holds-full = holds .as-many ∙ order .fits .holds-full;
+            processes-full = processes .as-many ∙ order .fits .processes-full;
+            entries-fit = entries .fit;
+            nodes-fit = nodes .fit;
+            holds-fit = holds .fit;
+            processes-fit = processes .fit;
           };
     }
+
+-- one of holds and processes alone
+pub same-tree : (t : Tables) (holds : List Hold) (processes : List Process) → In-order t → Holding (t .nodes) processes holds →
+    distinct free-process same-process processes ≡ true → Rows-kept Hold-fits (t .holds) holds → Rows-kept Process-fits (t .processes) processes →
+    In-order (with-processes (with-holds t holds) processes)
+same-tree t holds processes order holding distinct-processes =
+    still-in-order t (with-processes (with-holds t holds) processes) order
+    (record { tree = order .sound .tree; holding = holding; distinct-processes = distinct-processes })
+    (rows-same (order .fits .entries-fit)) (rows-same (order .fits .nodes-fit))
+
+-- one of entries, nodes and holds
+pub same-processes : (t : Tables) (entries : List Entry) (nodes : List Node) (holds : List Hold) → In-order t → Tree entries nodes →
+    Holding nodes (t .processes) holds → Rows-kept Entry-fits (t .entries) entries → Rows-kept Node-fits (t .nodes) nodes →
+    Rows-kept Hold-fits (t .holds) holds → In-order (with-holds (with-nodes (with-entries t entries) nodes) holds)
+same-processes t entries nodes holds order tree holding entries-kept nodes-kept holds-kept =
+    still-in-order t (with-holds (with-nodes (with-entries t entries) nodes) holds) order
+    (record { tree = tree; holding = holding; distinct-processes = order .sound .distinct-processes })
+    entries-kept nodes-kept holds-kept (rows-same (order .fits .processes-fit))
+
+-- tables in order pass the test
+pub order-sound : (t : Tables) → In-order t → sound-rows t ≡ true
+order-sound t order = facts-sound t (order .sound)
 
 -- CALLS
 
@@ -57,7 +86,7 @@ pub record Proper (r : Call) : Type 0 where
   pub path2 : Each Byte (r .path2)
 
 pub process-there : (r : Call) → Proper r → r .process ≢ 0
-process-there r proper = fields-right r (proper .fields) .process
+process-there r proper = fields-right r (proper .fields) .process (made-by-process (r .call))
 
 pub child-there : (r : Call) → Proper r → r .call ≡ 2 → r .argument ≢ 0
 child-there r proper e = eqb-false (r .argument) 0 (rw e at (fields-right r (proper .fields) .child))

@@ -1,29 +1,29 @@
 -- Calls 1 to 4, enter, fork, exec and exit: tables in order stay in order. Assumes nothing.
 use mathlib.Core.Path.{_≡_, refl, sym, ap, _∙_}
-use mathlib.Core.Bool.{true, false, _&&_}
+use mathlib.Core.Bool.{Bool, true, false, _&&_}
 use mathlib.Core.Logic.{_≢_}
 use mathlib.Core.List.{List}
 use Prim.Native.Nat.{ℕ, _^_, _<_}
 use borrow.Author.Tests.{eqb-true, eqb-false, eq-eqb, ne-eqb}
 use lib.Dec.{eqb}
 use Rattle.model.specs.Lists.{any, distinct, keep}
-use Rattle.model.specs.Tables.{Hold, Process, Tables, no-hold, no-process, free-hold, free-process, is-process, listed, user-of}
+use Rattle.model.specs.Tables.{Hold, Process, Tables, no-hold, no-process, free-hold, free-process, is-process, listed, user-of, with-processes, with-holds}
 use Rattle.model.specs.Sound.{same-hold, is-end, same-process}
 use Rattle.model.specs.Records.{Call}
 use Rattle.model.specs.Holds.{of-process, add-holds, copy-for, copies, drop-holds}
-use Rattle.model.specs.Calls.{Change, with-holds-and-processes, no-free-process, add-process, drop-process}
+use Rattle.model.specs.Calls.{Change, no-free-process, add-process, drop-process}
 use Rattle.laws.proofs.Bools.{clash, and-left, and-right, is-false, not-false}
 use Rattle.laws.proofs.Each.{Each, each-find, each-put, each-put-all, each-clear}
 use Rattle.laws.proofs.Members.{_∈_, each-in, in-each, in-none, none-in, from-map, from-keep}
-use Rattle.laws.proofs.Places.{same-hold-equal}
+use Rattle.laws.proofs.Places.{One-hold, same-hold-one, same-hold-turned}
 use Rattle.laws.proofs.Rules.{distinct-put, distinct-clear, distinct-keep, distinct-map, Apart, apart, length-put, length-put-all, length-clear}
 use Rattle.laws.proofs.Searches.{any-put-keeps, any-put-new, find-put-other, find-put-new, any-clear-other, find-clear-other}
 use Rattle.invariants.proofs.Cases.{Entered, Forked, Execed, Exited}
-use Rattle.invariants.proofs.Rows.{same-process-turned, same-hold-turned, like-no-process}
+use Rattle.invariants.proofs.Rows.{same-process-turned, like-no-process}
 use Rattle.invariants.proofs.Soundness.{Holding}
-use Rattle.invariants.proofs.Words.{Hold-fits, Process-fits, no-hold-fits, no-process-fits}
+use Rattle.laws.proofs.Words.{Hold-fits, Process-fits, no-hold-fits, no-process-fits}
 use Rattle.invariants.proofs.Holdings.{holding-fewer, from-drop, Still, holding-still, holding-more, New-hold}
-use Rattle.invariants.proofs.Order.{In-order, same-tree, Proper, process-there, child-there}
+use Rattle.invariants.proofs.Order.{In-order, Rows-kept, rows-same, same-tree, Proper, process-there, child-there}
 
 -- THE LIST OF PROCESSES
 
@@ -107,6 +107,20 @@ added-holding t order p user new =
 process-fits : (p user : ℕ) → p ≢ 0 → p < 2 ^ 16 → user < 2 ^ 16 → Process-fits (record { number = p; user = user })
 process-fits p user nz width user-width = record { free = λ e. absurd (nz e); number = width; user = user-width }
 
+process-kept : (t : Tables) → In-order t → (p user : ℕ) → p ≢ 0 → p < 2 ^ 16 → user < 2 ^ 16 →
+    Rows-kept Process-fits (t .processes) (add-process p user (t .processes))
+unfolding add-process
+process-kept t order p user nz width user-width =
+    record {
+      as-many = length-put free-process (record { number = p; user = user }) (t .processes);
+      fit = each-put free-process (order .fits .processes-fit) (process-fits p user nz width user-width);
+    }
+
+drop-kept : (t : Tables) → In-order t → (gone : Hold → Bool) → Rows-kept Hold-fits (t .holds) (drop-holds gone (t .holds))
+unfolding drop-holds
+drop-kept t order gone =
+    record { as-many = length-clear gone no-hold (t .holds); fit = each-clear gone (order .fits .holds-fit) no-hold-fits }
+
 module _ (t : Tables) (order : In-order t) (r : Call) (proper : Proper r) (c : Change) where
   -- 1
   pub enter-keeps : Entered t r c → In-order (c .tables)
@@ -115,10 +129,8 @@ module _ (t : Tables) (order : In-order t) (r : Call) (proper : Proper r) (c : C
       rw (is .gives .tables)
       (same-tree t (t .holds) (add-process (r .process) (r .argument) (t .processes)) order
       (added-holding t order (r .process) (r .argument) (is .new))
-      (added-distinct (t .processes) (r .process) (r .argument) (is .new) (order .sound .distinct-processes)) refl
-      (length-put free-process (record { number = r .process; user = r .argument }) (t .processes)) (order .fits .holds-fit)
-      (each-put free-process (order .fits .processes-fit)
-      (process-fits (r .process) (r .argument) (process-there r proper) (proper .process) (proper .argument))))
+      (added-distinct (t .processes) (r .process) (r .argument) (is .new) (order .sound .distinct-processes)) (rows-same (order .fits .holds-fit))
+      (process-kept t order (r .process) (r .argument) (process-there r proper) (proper .process) (proper .argument)))
 
   -- 3
   pub exec-keeps : Execed t r c → In-order (c .tables)
@@ -127,9 +139,7 @@ module _ (t : Tables) (order : In-order t) (r : Call) (proper : Proper r) (c : C
       rw (is .gives .tables)
       (same-tree t (drop-holds (of-process (r .process)) (t .holds)) (t .processes) order
       (holding-fewer (t .nodes) (t .processes) (of-process (r .process)) (t .holds) (order .sound .holding))
-      (order .sound .distinct-processes)
-      (length-clear (of-process (r .process)) no-hold (t .holds)) refl
-      (each-clear (of-process (r .process)) (order .fits .holds-fit) no-hold-fits) (order .fits .processes-fit))
+      (order .sound .distinct-processes) (drop-kept t order (of-process (r .process))) (rows-same (order .fits .processes-fit)))
 
   -- 4
   pub exit-keeps : Exited t r c → In-order (c .tables)
@@ -142,10 +152,11 @@ module _ (t : Tables) (order : In-order t) (r : Call) (proper : Proper r) (c : C
       (holding-fewer (t .nodes) (t .processes) (of-process (r .process)) (t .holds) (order .sound .holding)) still)
       (distinct-clear free-process same-process (is-process (r .process)) no-process refl like-no-process (t .processes)
       (order .sound .distinct-processes))
-      (length-clear (of-process (r .process)) no-hold (t .holds))
-      (length-clear (is-process (r .process)) no-process (t .processes))
-      (each-clear (of-process (r .process)) (order .fits .holds-fit) no-hold-fits)
-      (each-clear (is-process (r .process)) (order .fits .processes-fit) no-process-fits))
+      (drop-kept t order (of-process (r .process)))
+      (record {
+        as-many = length-clear (is-process (r .process)) no-process (t .processes);
+        fit = each-clear (is-process (r .process)) (order .fits .processes-fit) no-process-fits;
+      }))
     where
       still : (h : Hold) → h ∈ drop-holds (of-process (r .process)) (t .holds) → free-hold h ≡ false →
           Still (t .nodes) (t .processes) (drop-process (r .process) (t .processes)) h
@@ -227,7 +238,7 @@ module _ (t : Tables) (order : In-order t) (parent child : ℕ) (numbered : pare
       (λ h m. let found = from-copies h m in rw (found .1 .copy) (found .1 .used))
       (distinct-map free-hold same-hold (copy-for child) (keep (of-process parent) (t .holds)) (λ h m u. u) same-before
       (distinct-keep free-hold same-hold (of-process parent) (t .holds) (order .sound .holding .distinct-holds)))
-      (λ h k m i. is-false (same-hold h k) (λ s. unlike h k (from-copies h m) i (same-hold-equal h k s)))
+      (λ h k m i. is-false (same-hold h k) (λ s. unlike h k (from-copies h m) i (same-hold-one h k s)))
     where
       same-before : (h k : Hold) → h ∈ keep (of-process parent) (t .holds) → k ∈ keep (of-process parent) (t .holds) →
           same-hold (copy-for child h) (copy-for child k) ≡ true → same-hold h k ≡ true
@@ -236,10 +247,10 @@ module _ (t : Tables) (order : In-order t) (parent child : ℕ) (numbered : pare
           let of-k = eqb-true (k .process) parent (from-keep (of-process parent) (t .holds) i .1) in
           rw (eq-eqb (h .process) (k .process) (of-h ∙ sym of-k)) (rw (eq-eqb child child refl) at s)
 
-      unlike : (h k : Hold) → (x : Hold) × Copy-of h x → k ∈ t .holds → h ≡ k → ⊥
-      unlike h k found i e =
-          let process : k .process ≡ child = ap (λ (x : Hold). x .process) (sym e ∙ found .1 .copy) in
-          let place : k .place ≡ found .0 .place = ap (λ (x : Hold). x .place) (sym e ∙ found .1 .copy) in
+      unlike : (h k : Hold) → (x : Hold) × Copy-of h x → k ∈ t .holds → One-hold h k → ⊥
+      unlike h k found i one =
+          let process : k .process ≡ child = sym (one .process) ∙ ap (λ (x : Hold). x .process) (found .1 .copy) in
+          let place : k .place ≡ found .0 .place = sym (one .place) ∙ ap (λ (x : Hold). x .place) (found .1 .copy) in
           let used : free-hold k ≡ false = rw place (found .1 .used) in
           clash (rw process at (order .sound .holding .right k i used .holder)) new
 
@@ -262,20 +273,18 @@ module _ (t : Tables) (order : In-order t) (parent child : ℕ) (numbered : pare
 
   pub forked-order : child < 2 ^ 16 →
       In-order
-      (with-holds-and-processes t (add-holds (copies parent child (t .holds)) (t .holds))
-      (add-process child (user-of (t .processes) parent) (t .processes)))
+      (with-processes (with-holds t (add-holds (copies parent child (t .holds)) (t .holds))) (add-process child (user-of (t .processes) parent) (t .processes)))
   unfolding add-holds add-process processes user user-of
   forked-order width =
       same-tree t (add-holds (copies parent child (t .holds)) (t .holds)) processes order
       (holding-more (t .nodes) processes child (copies parent child (t .holds)) (t .holds) copies-apart copy-right
       (added-holding t order child user new))
       (added-distinct (t .processes) child user new (order .sound .distinct-processes))
-      (length-put-all free-hold (copies parent child (t .holds)) (t .holds))
-      (length-put free-process (record { number = child; user = user }) (t .processes))
-      (each-put-all free-hold (copies-fit width) (order .fits .holds-fit))
-      (each-put free-process (order .fits .processes-fit)
-      (process-fits child user child-numbered width
-      (each-find (is-process parent) (order .fits .processes-fit) no-process-fits .user)))
+      (record {
+        as-many = length-put-all free-hold (copies parent child (t .holds)) (t .holds);
+        fit = each-put-all free-hold (copies-fit width) (order .fits .holds-fit);
+      })
+      (process-kept t order child user child-numbered width (each-find (is-process parent) (order .fits .processes-fit) no-process-fits .user))
 
 pub fork-keeps : (t : Tables) → In-order t → (r : Call) → Proper r → r .call ≡ 2 → (c : Change) → Forked t r c → In-order (c .tables)
 unfolding no-free-process

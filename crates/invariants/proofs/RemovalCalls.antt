@@ -11,26 +11,25 @@ use lib.Dec.{eqb}
 use lib.ListN.{length}
 use Rattle.model.specs.Lists.{clear}
 use Rattle.model.specs.Paths.{valid-path}
-use Rattle.model.specs.Tables.{Place, Entry, Node, Hold, Tables, no-entry, no-hold, free-entry, free-node, free-hold, node-at, is-directory, at, lookup}
+use Rattle.model.specs.Tables.{Place, Entry, Node, Hold, Tables, no-entry, free-entry, free-node, free-hold, node-at, is-directory, at, lookup}
 use Rattle.model.specs.Sound.{leading-to}
 use Rattle.model.specs.Records.{Call}
 use Rattle.model.specs.Walk.{Goal}
-use Rattle.model.specs.Holds.{inside, add-holds, drop-holds, overruled}
-use Rattle.model.specs.Calls.{Change, absent, set-node, drop-entry, one-less, after-overruling, without-entry, has-entries}
-use Rattle.laws.proofs.Bools.{clash}
-use Rattle.laws.proofs.Each.{Each, each-clear}
+use Rattle.model.specs.Holds.{inside, overruled, emptied, taking, wanted}
+use Rattle.model.specs.Calls.{Change, absent, set-node, drop-entry, one-less, without-entry, has-entries}
+use Rattle.laws.proofs.Bools.{clash, neither-left, neither-right}
+use Rattle.laws.proofs.Each.{each-clear}
 use Rattle.laws.proofs.Members.{_∈_, each-in, in-none}
-use Rattle.laws.proofs.Rules.{count-some, length-put-all, length-clear}
-use Rattle.invariants.proofs.Cases.{new-holds, Unlinked, Rmdired}
-use Rattle.invariants.proofs.Rows.{node-in, length-set-node, directory-used}
-use Rattle.invariants.proofs.Soundness.{Holding}
-use Rattle.invariants.proofs.Words.{Node-fits, Hold-fits, no-entry-fits, no-node-fits, no-hold-fits}
+use Rattle.laws.proofs.Rules.{count-some, length-clear}
+use Rattle.invariants.proofs.Cases.{Unlinked, Rmdired}
+use Rattle.invariants.proofs.Rows.{node-in, directory-used}
+use Rattle.laws.proofs.Words.{Node-fits, no-entry-fits, no-node-fits}
 use Rattle.invariants.proofs.Walks.{Arrived}
-use Rattle.invariants.proofs.Holdings.{Fewer, from-drop, drop-fewer, holding-fewer, holding-still, holding-taken, Met, element, end}
+use Rattle.invariants.proofs.Holdings.{Met, element, end}
 use Rattle.invariants.proofs.Lookups.{at-place, entry-at, lookup-used}
 use Rattle.invariants.proofs.EntryRemoved.{Removable, Less, cleared, kept, less-cases, directory-left, tree-less}
-use Rattle.invariants.proofs.Order.{In-order, Proper, Caller, caller-of}
-use Rattle.invariants.proofs.Goals.{Valid, goal-arrives, Stops-at, stops-at, stops-at-file, stops-below-root, met-stands, wanted-right, taken-fit, nodes-fit-set}
+use Rattle.invariants.proofs.Order.{In-order, same-processes, Proper, Caller, caller-of}
+use Rattle.invariants.proofs.Goals.{Valid, goal-arrives, Stops-at, stops-at, stops-at-file, stops-below-root, met-stands, holding-after, taken-kept, node-set-kept}
 use Rattle.invariants.proofs.InTheWay.{Ends-ours, entry-ours, directory-way}
 
 -- WHAT REMOVALS SHARE
@@ -45,32 +44,19 @@ one-less-fits x used fits = go (less-cases x)
         let small = fits .count in
         rw e (record { free = λ i. absurd (eqb-false (x .kind) 0 used i); kind = fits .kind; count = omega arith; target = fits .target })
 
--- The entry at the end of the walk is removed. `left` are the holds after the call's drops, and none of them, and no place that the walk
--- met, is in the node that the entry leads to.
+-- The entry at the end of the walk is removed. None of the holds that are not `dropped`, and no place that the walk met, is in the node that
+-- the entry leads to.
 module _ (t : Tables) (order : In-order t) (p : ℕ) (caller : Caller (t .processes) p) (g : Goal)
     (arrived : Arrived Valid (t .entries) (t .nodes) g)
-    (q : Place) (at-q : g .end ≡ some q) (gone : Removable (t .entries) (t .nodes) q (g .node)) (left : List Hold)
-    (holding : Holding (t .nodes) (t .processes) left) (fewer : Fewer left (t .holds)) (as-many : length left ≡ length (t .holds))
-    (fit : Each Hold-fits left) (elsewhere : (h : Hold) → h ∈ left → free-hold h ≡ false → h .place .directory ≢ g .node)
-    (walked-elsewhere : (s : Place) → Met g s → s .directory ≢ g .node) (clean : Ends-ours t p g left) where
+    (q : Place) (at-q : g .end ≡ some q) (gone : Removable (t .entries) (t .nodes) q (g .node)) (dropped : Hold → Bool)
+    (elsewhere : (h : Hold) → h ∈ t .holds → free-hold h ≡ false → dropped h ≡ false → h .place .directory ≢ g .node)
+    (walked-elsewhere : (s : Place) → Met g s → s .directory ≢ g .node) (clean : Ends-ours t p g dropped) where
   nodes : List Node
   nodes = set-node (g .node) (one-less (node-at (t .nodes) (g .node))) (t .nodes)
 
   still : (d : ℕ) → d ≢ g .node → is-directory (t .nodes) d ≡ true → is-directory nodes d ≡ true
   unfolding nodes
   still = directory-left (t .entries) (t .nodes) (order .sound .tree) q (g .node) gone
-
-  holding-after : Holding nodes (t .processes) (add-holds (new-holds t p g) left)
-  holding-after =
-      holding-taken t p g nodes left
-      (holding-still (t .nodes) nodes (t .processes) (t .processes) left holding
-      (λ h m used.
-      let right = holding .right h m used in
-      record { directory = still (h .place .directory) (elsewhere h m used) (right .in-directory); holder = right .holder; user = refl }))
-      fewer
-      (λ h w. wanted-right t order p caller g arrived h w nodes
-      (still (h .place .directory) (walked-elsewhere (h .place) (w .met)) (met-stands t g arrived (h .place) (w .met) .directory)))
-      clean
 
   entries-after : drop-entry (g .end) (t .entries) ≡ clear (at q) no-entry (t .entries)
   unfolding drop-entry
@@ -81,31 +67,20 @@ module _ (t : Tables) (order : In-order t) (p : ℕ) (caller : Caller (t .proces
       rw (gone .found) at
       (lookup-used (t .entries) (t .nodes) (order .sound .tree) q (gone .in-directory) (λ z. gone .there (sym (gone .found) ∙ z)))
 
-  pub without-entry-order : In-order (without-entry t g (add-holds (new-holds t p g) left))
-  unfolding without-entry add-holds nodes
+  pub without-entry-order : In-order (without-entry t g (taking t (wanted p g) dropped))
+  unfolding without-entry nodes
   without-entry-order =
-      record {
-        sound =
-            record {
-              tree = rw entries-after (tree-less (t .entries) (t .nodes) (order .sound .tree) q (g .node) gone);
-              holding = holding-after;
-              distinct-processes = order .sound .distinct-processes;
-            };
-        fits =
-            record {
-              entries-full = ap length entries-after ∙ length-clear (at q) no-entry (t .entries) ∙ order .fits .entries-full;
-              nodes-full = length-set-node (t .nodes) (g .node) (one-less (node-at (t .nodes) (g .node))) ∙ order .fits .nodes-full;
-              holds-full = length-put-all free-hold (new-holds t p g) left ∙ as-many ∙ order .fits .holds-full;
-              processes-full = order .fits .processes-full;
-              entries-fit = rw entries-after (each-clear (at q) (order .fits .entries-fit) no-entry-fits);
-              nodes-fit =
-                  nodes-fit-set (t .nodes) (g .node) (one-less (node-at (t .nodes) (g .node))) (order .fits .nodes-fit)
-                  (one-less-fits (node-at (t .nodes) (g .node)) node-used
-                  (each-in (order .fits .nodes-fit) (node-in (t .nodes) (g .node) node-used)));
-              holds-fit = taken-fit t order p caller g arrived left fit;
-              processes-fit = order .fits .processes-fit;
-            };
-      }
+      same-processes t (drop-entry (g .end) (t .entries)) nodes (taking t (wanted p g) dropped) order
+      (rw entries-after (tree-less (t .entries) (t .nodes) (order .sound .tree) q (g .node) gone))
+      (holding-after t order p caller g arrived nodes dropped (λ h m used kept. still (h .place .directory) (elsewhere h m used kept))
+      (λ s met. still (s .directory) (walked-elsewhere s met)) clean)
+      (record {
+        as-many = ap length entries-after ∙ length-clear (at q) no-entry (t .entries);
+        fit = rw entries-after (each-clear (at q) (order .fits .entries-fit) no-entry-fits);
+      })
+      (node-set-kept t order (g .node) (one-less (node-at (t .nodes) (g .node)))
+      (one-less-fits (node-at (t .nodes) (g .node)) node-used (each-in (order .fits .nodes-fit) (node-in (t .nodes) (g .node) node-used))))
+      (taken-kept t order p caller g arrived dropped)
 
 -- 12, UNLINK
 
@@ -124,7 +99,7 @@ module _ (t : Tables) (order : In-order t) (n : ℕ) (no-directory : is-director
 
 pub unlink-keeps : (t : Tables) → In-order t → (r : Call) → Proper r → valid-path (r .path1) ≡ true → (c : Change) → Unlinked t r c →
     In-order (c .tables)
-unfolding absent after-overruling drop-holds
+unfolding absent
 unlink-keeps t order r proper valid c is =
     let g = is .goal in
     let p = r .process in
@@ -142,11 +117,9 @@ unlink-keeps t order r proper valid c is =
       not-top = λ e. clash (order .sound .tree .top) (rw e at (is .no-directory));
       nothing-inside = nothing-inside t order (g .node) (is .no-directory) there;
     })
-    (after-overruling t p g) (holding-fewer (t .nodes) (t .processes) (overruled t p g) (t .holds) (order .sound .holding))
-    (drop-fewer (overruled t p g) (t .holds)) (length-clear (overruled t p g) no-hold (t .holds))
-    (each-clear (overruled t p g) (order .fits .holds-fit) no-hold-fits)
-    (λ h m used. directory-other t order (g .node) (is .no-directory) (h .place .directory)
-    (order .sound .holding .right h (drop-fewer (overruled t p g) (t .holds) h m used) used .in-directory))
+    (overruled t p g)
+    (λ h m used kept. directory-other t order (g .node) (is .no-directory) (h .place .directory)
+    (order .sound .holding .right h m used .in-directory))
     (λ s met. directory-other t order (g .node) (is .no-directory) (s .directory) (met-stands t g arrived s met .directory))
     (entry-ours t p g (is .way)))
 
@@ -176,7 +149,7 @@ module _ (t : Tables) (n : ℕ) (empty : has-entries (t .entries) n ≡ false) w
 
 pub rmdir-keeps : (t : Tables) → In-order t → (r : Call) → Proper r → valid-path (r .path1) ≡ true → (c : Change) → Rmdired t r c →
     In-order (c .tables)
-unfolding absent after-overruling drop-holds inside
+unfolding absent inside emptied
 rmdir-keeps t order r proper valid c is =
     rw (is .gives .tables)
     (without-entry-order t order p (caller-of t r proper (is .caller)) g arrived q (stop .at-end)
@@ -187,15 +160,9 @@ rmdir-keeps t order r proper valid c is =
       not-top = λ e. not-the-top t order q found (stop .found ∙ e);
       nothing-inside = none-inside t (g .node) (is .empty);
     })
-    (drop-holds (inside (g .node)) (after-overruling t p g))
-    (holding-fewer (t .nodes) (t .processes) (inside (g .node)) (after-overruling t p g)
-    (holding-fewer (t .nodes) (t .processes) (overruled t p g) (t .holds) (order .sound .holding)))
-    (λ h m used. drop-fewer (overruled t p g) (t .holds) h (drop-fewer (inside (g .node)) (after-overruling t p g) h m used) used)
-    (length-clear (inside (g .node)) no-hold (after-overruling t p g) ∙ length-clear (overruled t p g) no-hold (t .holds))
-    (each-clear (inside (g .node)) (each-clear (overruled t p g) (order .fits .holds-fit) no-hold-fits) no-hold-fits)
-    (λ h m used. eqb-false (h .place .directory) (g .node)
-    (from-drop (inside (g .node)) (after-overruling t p g) h m used .1)) met-elsewhere
-    (λ k m used. entry-ours t p g (directory-way t p g (is .way)) k (drop-fewer (inside (g .node)) (after-overruling t p g) k m used) used))
+    (emptied t p g)
+    (λ h m used kept. eqb-false (h .place .directory) (g .node) (neither-right (overruled t p g h) _ kept)) met-elsewhere
+    (λ k m kept. entry-ours t p g (directory-way t p g (is .way)) k m (neither-left _ _ kept)))
   where
     g : Goal
     g = is .goal

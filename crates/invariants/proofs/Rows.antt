@@ -14,7 +14,7 @@ use Rattle.model.specs.Sound.{each-used, each-node, same-entry, same-hold, same
 use Rattle.model.specs.Calls.{set-node}
 use Rattle.laws.proofs.Bools.{true-or-false}
 use Rattle.laws.proofs.Members.{_∈_, at-in, from-set, all-in, in-all}
-use Rattle.laws.proofs.Places.{same-place-self, same-place-equal, same-place-directory, same-hold-self, same-hold-equal}
+use Rattle.laws.proofs.Places.{same-place-self, same-place-equal, same-place-directory, free-together}
 use Rattle.laws.proofs.Rules.{all-from-at, at-all-from}
 
 pub equal-or-not : (m n : ℕ) → (m ≡ n) ⊎ (m ≢ n)
@@ -132,9 +132,6 @@ pub same-process-turned : (a b : Process) → same-process a b ≡ true → same
 unfolding same-process
 same-process-turned a b e = eq-eqb (b .number) (a .number) (sym (eqb-true (a .number) (b .number) e))
 
-pub same-hold-turned : (a b : Hold) → same-hold a b ≡ true → same-hold b a ≡ true
-same-hold-turned a b e = rw (same-hold-equal a b e) (same-hold-self b)
-
 -- what is like a free row is free
 pub like-no-entry : (e : Entry) → same-entry e no-entry ≡ true → free-entry e ≡ true
 unfolding same-entry free-entry
@@ -142,7 +139,7 @@ like-no-entry e i = eq-eqb (e .place .directory) 0 (same-place-directory (e .pla
 
 pub like-no-hold : (h : Hold) → same-hold h no-hold ≡ true → free-hold h ≡ true
 unfolding free-hold
-like-no-hold h i = rw (same-hold-equal h no-hold i)
+like-no-hold h i = free-together h no-hold i
 
 pub like-no-process : (q : Process) → same-process q no-process ≡ true → free-process q ≡ true
 unfolding same-process free-process

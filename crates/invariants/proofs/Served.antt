@@ -21,9 +21,9 @@ use Rattle.laws.proofs.Pieces.{Byte}
 use Rattle.invariants.specs.Accepts.{accepts}
 use Rattle.invariants.proofs.Cases.{Saw, seen, held, Step, by-enter, by-fork, by-exec, by-exit, by-check, by-look, by-use, by-create, by-mkdir, by-symlink, by-link, by-unlink, by-rmdir, step-cases}
 use Rattle.invariants.proofs.Accepted.{read-fits, read-path1-bytes, read-path2-bytes}
-use Rattle.invariants.proofs.Soundness.{sound-facts, facts-sound}
-use Rattle.invariants.proofs.Words.{unpacked-fits, packed-sound, sound-has-sound-rows}
-use Rattle.invariants.proofs.Order.{In-order, Proper}
+use Rattle.invariants.proofs.Soundness.{sound-facts}
+use Rattle.laws.proofs.Words.{unpacked-fits, packed-sound, sound-has-sound-rows}
+use Rattle.invariants.proofs.Order.{In-order, order-sound, Proper}
 use Rattle.invariants.proofs.Steps.{step-keeps}
 use Rattle.invariants.proofs.NotUnsound.{Not-unsound, tested, skipped, joined, well-formed-not-unsound, step-not-unsound}
 
@@ -121,7 +121,7 @@ module _ (w s : List ℕ) (bytes : Each Byte s) (c : Change) (is : Accepted w s 
   granted-in-order = step-keeps (unpack w) (words-in-order w (is .sound-before)) (fields s) accepted-proper c (is .granted-step)
 
   pub granted-sound : sound (pack (c .tables)) ≡ true
-  granted-sound = packed-sound (granted-in-order .fits) (facts-sound (c .tables) (granted-in-order .sound))
+  granted-sound = packed-sound (granted-in-order .fits) (order-sound (c .tables) granted-in-order)
 
 -- NOT REFUSED AS UNSOUND
 

@@ -1,5 +1,5 @@
 -- Sound tables, rule by rule, as facts about their rows; and that these facts together are the model's test of soundness. Assumes nothing.
-use mathlib.Core.Path.{_≡_, refl}
+use mathlib.Core.Path.{_≡_}
 use mathlib.Core.Bool.{Bool, true, false, not, _&&_, _||_}
 use mathlib.Core.Logic.{_≢_}
 use mathlib.Core.List.{List, [], _∷_}
@@ -8,14 +8,14 @@ use borrow.Author.Tests.{eqb-true, eqb-false, eq-eqb, ne-eqb}
 use lib.Dec.{eqb}
 use Rattle.model.specs.Lists.{all, distinct}
 use Rattle.model.specs.Paths.{valid-name}
-use Rattle.model.specs.Tables.{Place, Entry, Node, Hold, Process, Tables, end-role, element-role, free-entry, free-node, free-hold, free-process, same-place, node-at, is-directory, listed, user-of}
+use Rattle.model.specs.Tables.{Entry, Node, Hold, Process, Tables, end-role, element-role, free-entry, free-node, free-hold, free-process, node-at, is-directory, listed, user-of}
 use Rattle.model.specs.Sound as model
 use Rattle.model.specs.Sound.{same-entry, leading-to, count-fits, same-hold, is-end, agree, same-process, target-fits, sound-rows}
 use Rattle.laws.proofs.Bools.{and-left, and-right, both, not-true}
 use Rattle.laws.proofs.Chains.{True, chain-each, each-chain}
 use Rattle.laws.proofs.Each.{Each, none, one}
+use Rattle.laws.proofs.HoldPairs.{agree-when, agreed-users}
 use Rattle.laws.proofs.Members.{_∈_, all-in, in-all}
-use Rattle.laws.proofs.Places.{same-place-self, same-place-equal}
 use Rattle.invariants.proofs.Rows.{used-meets, meets-used, node-meets, meets-node}
 
 -- the rules for entries and nodes
@@ -52,29 +52,6 @@ pub record Sound (t : Tables) : Type 0 where
   pub distinct-processes : distinct free-process same-process (t .processes) ≡ true
 
 -- THE MODEL'S TEST
-
--- two holds agree: where both are end holds on one place, they are of one user
-agree-user : (processes : List Process) (h k : Hold) → agree processes h k ≡ true → is-end h ≡ true → is-end k ≡ true →
-    h .place ≡ k .place → user-of processes (h .process) ≡ user-of processes (k .process)
-unfolding agree
-agree-user processes h k a end-h end-k same =
-    eqb-true _ _ (simp (end-h, end-k, same-place-is (h .place) (k .place) same) at a)
-  where
-    same-place-is : (p q : Place) → p ≡ q → same-place p q ≡ true
-    same-place-is p q e = rw e (same-place-self q)
-
-user-agree : (processes : List Process) (h k : Hold) →
-    (is-end h ≡ true → is-end k ≡ true → h .place ≡ k .place → user-of processes (h .process) ≡ user-of processes (k .process)) →
-    agree processes h k ≡ true
-unfolding agree
-user-agree processes h k same-user = go (is-end h) refl (is-end k) refl (same-place (h .place) (k .place)) refl
-  where
-    go : (a : Bool) → is-end h ≡ a → (b : Bool) → is-end k ≡ b → (c : Bool) → same-place (h .place) (k .place) ≡ c →
-        (not (a && b && c) || eqb (user-of processes (h .process)) (user-of processes (k .process))) ≡ true
-    go true p true q true r = eq-eqb _ _ (same-user p q (same-place-equal (h .place) (k .place) r))
-    go true p true q false r = refl
-    go true p false q c r = refl
-    go false p b q c r = refl
 
 -- the rules of the model's test, one by one
 record Rules (t : Tables) : Type 0 where
@@ -153,7 +130,8 @@ test t r =
     (one (r .targets-valid) none))))))))))))))
 
 tree-facts : (t : Tables) → Rules t → Tree (t .entries) (t .nodes)
-unfolding model.entries-distinct model.entries-in-directories model.entries-lead-to-nodes model.counts-right model.first-node-right model.counts-fit model.names-valid model.targets-valid
+unfolding model.entries-distinct model.entries-in-directories model.entries-lead-to-nodes model.counts-right model.first-node-right model.counts-fit model.names-valid
+    model.targets-valid
 tree-facts t r =
     record {
       distinct-entries = r .entries-distinct;
@@ -188,7 +166,7 @@ holding-facts t r =
                 (r .holds-of-listed) h m used)));
           };
       one-user = λ h k m i used.
-          agree-user (t .processes) h k
+          agreed-users (t .processes) h k
           (all-in (agree (t .processes) h) (t .holds)
           (used-meets free-hold (λ y. all (agree (t .processes) y) (t .holds)) (t .holds) (r .ends-of-one-user) h m used) i);
     }
@@ -202,7 +180,8 @@ sound-facts t s =
 
 -- and the facts make up the test
 pub facts-sound : (t : Tables) → Sound t → sound-rows t ≡ true
-unfolding model.entries-distinct model.entries-in-directories model.entries-lead-to-nodes model.counts-right model.first-node-right model.counts-fit model.names-valid model.targets-valid model.holds-distinct model.holds-in-directories model.holds-of-listed model.ends-of-one-user model.roles-valid model.processes-distinct
+unfolding model.entries-distinct model.entries-in-directories model.entries-lead-to-nodes model.counts-right model.first-node-right model.counts-fit model.names-valid
+    model.targets-valid model.holds-distinct model.holds-in-directories model.holds-of-listed model.ends-of-one-user model.roles-valid model.processes-distinct
 facts-sound t s =
     let tree = s .tree in
     let holding = s .holding in
@@ -222,7 +201,7 @@ facts-sound t s =
           (λ h m used. simp (ne-eqb (h .process) 0 (holding .right h m used .holder-numbered), holding .right h m used .holder));
       ends-of-one-user =
           meets-used free-hold _ (t .holds)
-          (λ h m used. in-all (agree (t .processes) h) (t .holds) (λ k i. user-agree (t .processes) h k (holding .one-user h k m i used)));
+          (λ h m used. in-all (agree (t .processes) h) (t .holds) (λ k i. agree-when (t .processes) h k (holding .one-user h k m i used)));
       processes-distinct = s .distinct-processes;
       names-valid =
           both (meets-used free-entry _ (t .entries) (tree .named))

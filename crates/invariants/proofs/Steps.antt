@@ -6,7 +6,7 @@ use native.Mathlib.Omega.{arith}
 use lib.ListN.{length-replicate}
 use Rattle.model.specs.Lists.{empty}
 use Rattle.model.specs.Refusals.{granted}
-use Rattle.model.specs.Tables.{Tables, no-entry, no-node, no-hold, no-process, a-file, a-directory, a-link, fresh}
+use Rattle.model.specs.Tables.{Tables, no-entry, no-node, no-hold, no-process, a-file, a-directory, a-link, fresh, entry-rows, hold-rows, process-rows, other-nodes}
 use Rattle.model.specs.Sound.{target-fits, sound-rows}
 use Rattle.model.specs.Records.{Call, target, calls, row-of}
 use Rattle.model.specs.Calls.{Change, step}
@@ -15,7 +15,7 @@ use Rattle.laws.proofs.Each.{none, one, each-replicate}
 use Rattle.invariants.proofs.Cases.{Step, by-enter, by-fork, by-exec, by-exit, by-check, by-look, by-use, by-create, by-mkdir, by-symlink, by-link, by-unlink, by-rmdir, step-cases}
 use Rattle.invariants.proofs.Accepted.{valid-target-short}
 use Rattle.invariants.proofs.Soundness.{sound-facts}
-use Rattle.invariants.proofs.Words.{Target-fits, Node-fits, Fits, no-entry-fits, no-node-fits, no-hold-fits, no-process-fits}
+use Rattle.laws.proofs.Words.{Target-fits, Node-fits, Fits, no-entry-fits, no-node-fits, no-hold-fits, no-process-fits}
 use Rattle.invariants.proofs.Order.{In-order, Proper, path1-valid, path2-valid, target-valid}
 use Rattle.invariants.proofs.ProcessCalls.{enter-keeps, fork-keeps, exec-keeps, exit-keeps}
 use Rattle.invariants.proofs.CheckCalls.{look-keeps}
@@ -62,14 +62,14 @@ fresh-fits : Fits fresh
 unfolding fresh
 fresh-fits =
     record {
-      entries-full = length-replicate 512 no-entry;
+      entries-full = length-replicate entry-rows no-entry;
       nodes-full = refl;
-      holds-full = length-replicate 256 no-hold;
-      processes-full = length-replicate 64 no-process;
-      entries-fit = each-replicate 512 no-entry no-entry-fits;
-      nodes-fit = one top-fits (each-replicate 255 no-node no-node-fits);
-      holds-fit = each-replicate 256 no-hold no-hold-fits;
-      processes-fit = each-replicate 64 no-process no-process-fits;
+      holds-full = length-replicate hold-rows no-hold;
+      processes-full = length-replicate process-rows no-process;
+      entries-fit = each-replicate entry-rows no-entry no-entry-fits;
+      nodes-fit = one top-fits (each-replicate other-nodes no-node no-node-fits);
+      holds-fit = each-replicate hold-rows no-hold no-hold-fits;
+      processes-fit = each-replicate process-rows no-process no-process-fits;
     }
   where
     top-fits : Node-fits (record { kind = a-directory; count = 0; target = [] })

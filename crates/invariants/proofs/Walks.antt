@@ -12,7 +12,7 @@ use borrow.Author.Tests.{eqb-true}
 use Rattle.model.specs.Refusals.{Outcome, refused, granted}
 use Rattle.model.specs.Paths.{Name, names, absolute}
 use Rattle.model.specs.Tables.{Place, Entry, Node, a-file, a-directory, node-at, is-directory, lookup}
-use Rattle.model.specs.Walk.{Goal, Found, nothing, file, directory, link, found-node, found, here, after-link, start, follow, turn, walk-names, walk-within, walk}
+use Rattle.model.specs.Walk.{Goal, Found, nothing, file, directory, link, found-node, found, Trip, here, astray, past, after-link, start, follow, turn, trip-names, trip-within, trip, walk}
 use Rattle.laws.proofs.Each.{Each, none, one, each-head, each-tail, each-append}
 
 -- WHAT WAS FOUND
@@ -88,10 +88,20 @@ found-there entries nodes q = go (eqb at 0) refl (eqb (x .kind) a-file) (eqb (x 
     go false e false false = refl
 
 -- a link was found: some entry leads there
-found-link : (entries : List Entry) (nodes : List Node) (q : Place) (n : ℕ) (target : List ℕ) → found entries nodes q ≡ link n target →
+pub found-link : (entries : List Entry) (nodes : List Node) (q : Place) (n : ℕ) (target : List ℕ) → found entries nodes q ≡ link n target →
     lookup entries q ≢ 0
 unfolding found found-node
 found-link entries nodes q n target e z = let w : nothing ≡ link n target = rw z at e in let y : _≡_ {A = ℕ} 0 1 = cc in omega arith
+
+-- a target is walked from a directory
+pub start-directory : (nodes : List Node) (d : ℕ) (target : List ℕ) → is-directory nodes 1 ≡ true → is-directory nodes d ≡ true →
+    is-directory nodes (start d target) ≡ true
+unfolding start
+start-directory nodes d target top e = go (absolute target)
+  where
+    go : (b : Bool) → is-directory nodes (elim b as (λ _. ℕ) [ true ↦ 1 | false ↦ d ]) ≡ true
+    go true = top
+    go false = e
 
 -- THE PLACES OF A WALK
 
@@ -117,38 +127,30 @@ Fine Valid entries nodes (granted g) = Arrived Valid entries nodes g
 -- `targets`: the names of a link that is found are valid
 module _ (Valid : Name → Type 0) (entries : List Entry) (nodes : List Node) (top : is-directory nodes 1 ≡ true)
     (targets : (q : Place) (n : ℕ) (target : List ℕ) → found entries nodes q ≡ link n target → Each Valid (names target)) where
-  after-link-fine : (q : Place) (w : Outcome Goal) → Stands Valid nodes q → lookup entries q ≢ 0 → Fine Valid entries nodes w →
-      Fine Valid entries nodes (after-link q w)
-  unfolding after-link
-  after-link-fine q (refused n) s there f = tt
-  after-link-fine q (granted g) s there f = record { end = f .end; elements = one s (f .elements); present = one there (f .present) }
+  past-fine : (q : Place) (w : Outcome Goal) → Stands Valid nodes q → lookup entries q ≢ 0 → Fine Valid entries nodes w →
+      Fine Valid entries nodes (past q w)
+  unfolding past
+  past-fine q (refused n) s there f = tt
+  past-fine q (granted g) s there f = record { end = f .end; elements = one s (f .elements); present = one there (f .present) }
 
-  start-directory : (d : ℕ) (target : List ℕ) → is-directory nodes d ≡ true → is-directory nodes (start d target) ≡ true
-  unfolding start
-  start-directory d target e = go (absolute target)
-    where
-      go : (b : Bool) → is-directory nodes (elim b as (λ _. ℕ) [ true ↦ 1 | false ↦ d ]) ≡ true
-      go true = top
-      go false = e
-
-  here-fine : (q : Place) (n : ℕ) → Stands Valid nodes q → lookup entries q ≡ n → Fine Valid entries nodes (here q n)
+  here-fine : (q : Place) (n : ℕ) → Stands Valid nodes q → lookup entries q ≡ n → Fine Valid entries nodes (here q n .outcome)
   unfolding here
   here-fine q n s e = record { end = (s, e); elements = none; present = none }
 
-  module _ (jump : ℕ → List Name → Outcome Goal)
-      (jump-fine : (d : ℕ) (ns : List Name) → is-directory nodes d ≡ true → Each Valid ns → Fine Valid entries nodes (jump d ns)) where
+  module _ (jump : ℕ → List Name → Trip)
+      (jump-fine : (d : ℕ) (ns : List Name) → is-directory nodes d ≡ true → Each Valid ns → Fine Valid entries nodes (jump d ns .outcome)) where
     follow-fine : (q : Place) (n : ℕ) (target : List ℕ) (rest : List Name) → Stands Valid nodes q → Each Valid rest →
-        found entries nodes q ≡ link n target → Fine Valid entries nodes (follow jump q target rest)
-    unfolding follow
+        found entries nodes q ≡ link n target → Fine Valid entries nodes (follow jump q target rest .outcome)
+    unfolding follow after-link
     follow-fine q n target rest s valid e =
-        after-link-fine q (jump (start (q .directory) target) (names target ++ rest)) s (found-link entries nodes q n target e)
-        (jump-fine (start (q .directory) target) (names target ++ rest) (start-directory (q .directory) target (s .directory))
+        past-fine q (jump (start (q .directory) target) (names target ++ rest) .outcome) s (found-link entries nodes q n target e)
+        (jump-fine (start (q .directory) target) (names target ++ rest) (start-directory nodes (q .directory) target top (s .directory))
         (each-append (targets q n target e) valid))
 
-    turn-fine : (last : Bool) (on : ℕ → Outcome Goal) (q : Place) (f : Found) (rest : List Name) → found entries nodes q ≡ f →
-        Stands Valid nodes q → Each Valid rest → ((n : ℕ) → is-directory nodes n ≡ true → Fine Valid entries nodes (on n)) →
-        Fine Valid entries nodes (turn jump on last q f rest)
-    unfolding turn
+    turn-fine : (last : Bool) (on : ℕ → Trip) (q : Place) (f : Found) (rest : List Name) → found entries nodes q ≡ f →
+        Stands Valid nodes q → Each Valid rest → ((n : ℕ) → is-directory nodes n ≡ true → Fine Valid entries nodes (on n .outcome)) →
+        Fine Valid entries nodes (turn jump on last q f rest .outcome)
+    unfolding turn astray
     turn-fine last on q nothing [] e s v h = here-fine q 0 s (sym (found-there entries nodes q) ∙ rw e)
     turn-fine last on q nothing (next ∷ rest) e s v h = tt
     turn-fine last on q (file n) [] e s v h = here-fine q n s (sym (found-there entries nodes q) ∙ rw e)
@@ -161,21 +163,21 @@ module _ (Valid : Name → Type 0) (entries : List Entry) (nodes : List Node) (t
     turn-fine false on q (link n target) (next ∷ rest) e s v h = follow-fine q n target (next ∷ rest) s v e
 
     names-fine : (last : Bool) (d : ℕ) (ns : List Name) → is-directory nodes d ≡ true → Each Valid ns →
-        Fine Valid entries nodes (walk-names entries nodes last jump d ns)
-    unfolding walk-names
+        Fine Valid entries nodes (trip-names (found entries nodes) last jump d ns .outcome)
+    unfolding trip-names
     names-fine last d [] e v = record { end = e; elements = none; present = none }
     names-fine last d (name ∷ rest) e v =
-        turn-fine last (λ n. walk-names entries nodes last jump n rest) (record { directory = d; name = name })
+        turn-fine last (λ n. trip-names (found entries nodes) last jump n rest) (record { directory = d; name = name })
         (found entries nodes (record { directory = d; name = name })) rest refl (record { directory = e; name = each-head v }) (each-tail v)
         (λ n f. names-fine last n rest f (each-tail v))
 
   within-fine : (last : Bool) (k d : ℕ) (ns : List Name) → is-directory nodes d ≡ true → Each Valid ns →
-      Fine Valid entries nodes (walk-within entries nodes last k d ns)
-  unfolding walk-within
-  within-fine last zero d ns e v = names-fine (λ d rest. refused 7) (λ d rest h w. tt) last d ns e v
-  within-fine last (suc k) d ns e v = names-fine (walk-within entries nodes last k) (within-fine last k) last d ns e v
+      Fine Valid entries nodes (trip-within (found entries nodes) last k d ns .outcome)
+  unfolding trip-within astray
+  within-fine last zero d ns e v = names-fine (λ d rest. astray 7) (λ d rest h w. tt) last d ns e v
+  within-fine last (suc k) d ns e v = names-fine (trip-within (found entries nodes) last k) (within-fine last k) last d ns e v
 
   pub walk-arrives : (last : Bool) (path : List ℕ) (g : Goal) → Each Valid (names path) → walk entries nodes last path ≡ granted g →
       Arrived Valid entries nodes g
-  unfolding walk
+  unfolding walk trip
   walk-arrives last path g valid e = rw e at (within-fine last 8 1 (names path) top valid)

@@ -9,6 +9,7 @@ pub mod Distinct
 pub mod Each
 pub mod Elements
 pub mod Grants
+pub mod HoldPairs
 pub mod Kept
 pub mod Loops
 pub mod Members
@@ -18,3 +19,4 @@ pub mod Results
 pub mod RowWords
 pub mod Rules
 pub mod Searches
+pub mod Words

@@ -72,18 +72,6 @@ module _ {A : Type 0} (f : A → Bool) (d : A) (xs : List A) (i : ℕ) where
   unfolding first
   first-nowhere h inv = sym (ap (first f i) (drop-of-length-le xs h)) ∙ inv
 
-  pub find-found : {v : A} → i < length xs → f (getD xs i d) ≡ true → find f d (drop i xs) ≡ v → getD xs i d ≡ v
-  unfolding find
-  find-found h e inv = sym (ap (find f d) (rest-at d xs i h) ∙ simp (e, find)) ∙ inv
-
-  pub find-onward : {v : A} → i < length xs → f (getD xs i d) ≡ false → find f d (drop i xs) ≡ v → find f d (drop (i + 1) xs) ≡ v
-  unfolding find
-  find-onward h e inv = sym (ap (find f d) (rest-at d xs i h) ∙ simp (e, find)) ∙ inv
-
-  pub find-nowhere : {v : A} → length xs ≤ i → find f d (drop i xs) ≡ v → d ≡ v
-  unfolding find
-  find-nowhere h inv = sym (ap (find f d) (drop-of-length-le xs h)) ∙ inv
-
 -- the same as `all`, where the test is told the row's number, counted from n
 module _ {A : Type 0} (f : ℕ → A → Bool) (d : A) (xs : List A) (n i : ℕ) where
   pub all-from-failed : {v : Bool} → i < length xs → f (n + i) (getD xs i d) ≡ false → all-from (n + i) f (drop i xs) ≡ v → false ≡ v

@@ -119,6 +119,36 @@ module _ {A : Type 0} where
       go false p ih (here e) = inr (here e, rw e p)
       go false p ih (there i) = later (ih i)
 
+  -- a row that stays where another is put, and the new one; a row that is not cleared
+  pub in-put : (free : A → Bool) (new : A) {rows : List A} {x : A} → x ∈ rows → free x ≡ false → x ∈ put free new rows
+  unfolding put
+  in-put free new {rows = a ∷ rows} (here i) e = let p : free a ≡ false = rw i at e in simp (p, put) (here i)
+  in-put free new {rows = a ∷ rows} {x = x} (there m) e = go (free a) (in-put free new m e)
+    where
+      go : (b : Bool) → x ∈ put free new rows → x ∈ elim b as (λ _. List A) [ true ↦ new ∷ rows | false ↦ a ∷ put free new rows ]
+      go true ih = there m
+      go false ih = there ih
+
+  pub in-put-new : (free : A → Bool) (new : A) (rows : List A) → any free rows ≡ true → new ∈ put free new rows
+  unfolding any put
+  in-put-new free new [] e = absurd (false≢true e)
+  in-put-new free new (a ∷ rows) e = go (free a) (in-put-new free new rows) e
+    where
+      go : (b : Bool) → (any free rows ≡ true → new ∈ put free new rows) → (b || any free rows) ≡ true →
+          new ∈ elim b as (λ _. List A) [ true ↦ new ∷ rows | false ↦ a ∷ put free new rows ]
+      go true ih h = here refl
+      go false ih h = there (ih h)
+
+  pub in-clear : (f : A → Bool) (blank : A) {rows : List A} {x : A} → x ∈ rows → f x ≡ false → x ∈ clear f blank rows
+  unfolding clear
+  in-clear f blank {rows = a ∷ rows} (here i) e = let p : f a ≡ false = rw i at e in simp (p, clear) (here i)
+  in-clear f blank {rows = a ∷ rows} {x = x} (there m) e = go (f a) (in-clear f blank m e)
+    where
+      go : (b : Bool) → x ∈ clear f blank rows →
+          x ∈ elim b as (λ _. List A) [ true ↦ blank ∷ clear f blank rows | false ↦ a ∷ clear f blank rows ]
+      go true ih = there ih
+      go false ih = there ih
+
   pub from-keep : (f : A → Bool) (rows : List A) {x : A} → x ∈ keep f rows → (x ∈ rows) × (f x ≡ true)
   unfolding keep
   from-keep f [] m = in-nothing m

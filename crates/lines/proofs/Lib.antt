@@ -1,3 +1,4 @@
+pub mod Determined
 pub mod Digits
 pub mod LineBytes
 pub mod Runs

@@ -9,15 +9,16 @@ use borrow.Author.Tests.{eq-eqb, ne-eqb}
 use lib.Dec.{eqb}
 use lib.ListN.{length}
 use Rattle.model.specs.Lists.{empty}
-use Rattle.model.specs.Refusals.{Outcome, refused, granted, _>>_}
+use Rattle.model.specs.Refusals.{_>>_}
 use Rattle.model.specs.Records.{asked, short, taken}
-use Rattle.model.specs.Calls.{Change}
 use Rattle.model.specs.Serve.{Served, judged-with, judged, served, serve}
 use Rattle.model.specs.Listing.{line}
 use Rattle.model.specs.declared.Answer.{Answer}
 use Rattle.model.specs.declared.Answer.the-variants.{Refused}
 use Rattle.model.specs.declared.Verdict.{Verdict}
-use Rattle.service.specs.Serves.{Serves, verdict-of}
+use Rattle.service.specs.Serves.{Serves}
+use Rattle.service.proofs.Demands.{answer-is, taken-is}
+use Rattle.service.proofs.Verdicts.{serve-takes}
 use Rattle.invariants.proofs.Records.{whole, whole-taken}
 use Rattle.listing.specs.declared.Step.the-variants.{Over, More, Full, Line, Last}
 use Rattle.lines.specs.Puts.{Puts}
@@ -27,15 +28,6 @@ use Rattle.lines.proofs.Runs.{puts-front}
 use Rattle.lines.proofs.LineBytes.{line-length}
 
 -- WHAT IS SERVED
-
-served-taken : (w : List ℕ) (n : ℕ) (o : Outcome Change) → served w n o .taken ≡ n
-unfolding served
-served-taken w n (refused k) = refl
-served-taken w n (granted c) = refl
-
-pub serve-taken : (w s : List ℕ) → serve w s .taken ≡ taken s
-unfolding serve
-serve-taken w s = served-taken w (taken s) (judged w s)
 
 -- what is too short is answered 17, nothing is taken and no word is changed
 pub serve-short : (w s : List ℕ) → short s ≡ true → serve w s ≡ record { answer = Refused 17; taken = 0; words = w }
@@ -98,12 +90,7 @@ module _ (w s : List ℕ) (last : Bool) (place : ℕ) (out : List ℕ) where
     -- and the service's verdict
     module _ {r : Verdict} {v : List ℕ} (served : Serves w s r v) where
       same-taken : r .taken ≡ taken s
-      unfolding verdict-of
-      same-taken = ap (λ x. x .taken) (served .verdict) ∙ serve-taken w s
-
-      same-answer : r .answer ≡ serve w s .answer
-      unfolding verdict-of
-      same-answer = ap (λ x. x .answer) (served .verdict)
+      same-taken = taken-is served ∙ serve-takes w s
 
       pub step-too-short-yet : r .taken ≡ 0 → last ≡ false → stepped More v out ≡ next-line w s last place out
       step-too-short-yet e p =
@@ -119,7 +106,7 @@ module _ (w s : List ℕ) (last : Bool) (place : ℕ) (out : List ℕ) where
         line-listed : (b : Bool) → short s ≡ b → (b && not last) ≡ false
             → stepped (line-step (b || eqb place last-place) (r .taken) l) v o ≡ next-line w s last place out
         line-listed b p q =
-            same-listed b place out (serve w s) (same-taken ∙ sym (serve-taken w s)) same-answer (served .words) (omega (arith, put .end-is)) written
+            same-listed b place out (serve w s) (taken-is served) (answer-is served) (served .words) (omega (arith, put .end-is)) written
             ∙ ap (λ c. listed c place out (serve w s)) (sym p)
             ∙ sym (next-listed w s last place out (not-empty s f) h (rw p q))
 

@@ -21,7 +21,7 @@ use Rattle.listing.specs.declared.Step.the-variants.{Over, More, Full, L
 use Rattle.listing.specs.Steps.{longest-line, last-place, stepped, line-step, listed, next-line}
 use Rattle.listing.proofs.Nexts.{next-over, next-nothing-yet, next-full, next-more, next-listed}
 use Rattle.lines.proofs.LineBytes.{line-length}
-use Rattle.listing.proofs.StepCases.{serve-taken}
+use Rattle.service.proofs.Verdicts.{serve-takes}
 
 -- a line that others may follow
 pub record Line-facts (s : List ℕ) (place : ℕ) (out : List ℕ) (taken length-of : ℕ) : Type 0 where
@@ -66,8 +66,8 @@ module _ (w s : List ℕ) (last : Bool) (place : ℕ) (out : List ℕ) where
       go false q false p =
           rw (q, p)
           (record {
-            takes-some = omega (arith, serve-taken w s, whole-taken (whole s q));
-            takes-there = omega (arith, serve-taken w s, taken-there (whole s q));
+            takes-some = omega (arith, serve-takes w s, whole-taken (whole s q));
+            takes-there = omega (arith, serve-takes w s, taken-there (whole s q));
             fits-out = omega (arith, line-length place (serve w s .answer));
             place-left = eqb-false place last-place p;
           })

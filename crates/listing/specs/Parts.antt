@@ -40,9 +40,9 @@ unfoldable pub filled-by : (List ℕ → List ℕ → ℕ → List ℕ → Fille
 filled-by on s place w out step.Over = no-line place stop.Over w out
 filled-by on s place w out step.More = no-line place stop.More w out
 filled-by on s place w out step.Full = no-line place stop.Full w out
-filled-by on s place w out (step.Line taken length) =
-    behind taken (take length out) (on w (drop taken s) (suc place) (drop length out))
-filled-by on s place w out (step.Last length) = behind 0 (take length out) (no-line place stop.Over w (drop length out))
+filled-by on s place w out (step.Line taken size) =
+    behind taken (take size out) (on w (drop taken s) (suc place) (drop size out))
+filled-by on s place w out (step.Last size) = behind 0 (take size out) (no-line place stop.Over w (drop size out))
 
 -- step after step, at most n
 unfoldable pub fill : ℕ → Bool → List ℕ → List ℕ → ℕ → List ℕ → Filled

@@ -31,8 +31,8 @@ over-front new out = new ++ drop (length new) out
 
 -- the answer of a step that wrote a line
 unfoldable pub line-step : Bool → ℕ → ℕ → Step
-line-step true taken length = Last length
-line-step false taken length = Line taken length
+line-step true taken size = Last size
+line-step false taken size = Line taken size
 
 -- The listing: a record was served, and its line is written. The line of a 17 is the last
 unfoldable pub listed : Bool → ℕ → List ℕ → Served → Stepped

@@ -1,13 +1,16 @@
 // Calls 5 to 7: check, look and use.
 ghost use Rattle.model.specs.Calls.{looking, check, look, use-of};
 ghost use Rattle.model.specs.Words.{unpack};
-ghost use Rattle.calls.specs.Meets.{Meets};
-ghost use Rattle.accepted.specs.Ready.{call-in, Ready, Walks};
-use accepted::reach;
-use checks::look_at;
-use goals::Stop;
+ghost use Rattle.rows.specs.Meets.{Meets};
+ghost use Rattle.reaching.specs.Ready.{call-in, Ready, Walks};
+
+pub mod at_end;
+
+use at_end::look_at;
 use index::BUCKETS;
 use model::Answer;
+use reaching::Way;
+use reaching::reach;
 use records::Fields;
 use rows::ENTRY_ROWS;
 
@@ -28,12 +31,13 @@ fn look_along(
     requires { ⌜ (Ready (now words) (now heads) (now next) (now bytes) fields) × (Walks fields) ⌝ }
     ensures { λ r. ⌜ Meets (now (words .entry)) (looking (manner .«follow_last») (manner .«must_exist») (unpack (now (words .entry))) (call-in (now (bytes .entry)) fields)) r (now (words .exit)) ⌝ }
 {
-    let walk = reach(words, heads, next, bytes, fields, manner.follow_last);
-    let stop = walk.stop;
-    if let Stop::Refused(number) = stop {
-        return Answer::Refused(number);
+    let reached = reach(words, heads, next, bytes, fields, manner.follow_last);
+    let way = reached.way;
+    let walk = reached.walk;
+    match way {
+        Way::Refused(number) => Answer::Refused(number),
+        Way::Open(caller) => look_at(words, caller, walk, manner.must_exist),
     }
-    look_at(words, fields.process, walk, manner.must_exist)
 }
 
 pub fn check(

@@ -35,6 +35,12 @@ call-rules =
     ∷ execs 20
     ∷ checks 20 "/a"
     ∷ forks 20 21
+    ∷ [])
+    "1 done 20\n2 refused 5\n3 refused 4\n4 refused 5\n5 held 0\n6 held 0\n7 refused 16\n8 done 20\n9 held 0\n10 done 21\n"
+    ∷ answers-so (room-for 4 4 3 3)
+    (enters 20 500
+    ∷ checks 20 "/a"
+    ∷ forks 20 21
     ∷ enters 30 600
     ∷ enters 40 700
     ∷ enters 30 700
@@ -46,7 +52,7 @@ call-rules =
     ∷ creates 21 "/a"
     ∷ enters 40 700
     ∷ [])
-    "1 done 20\n2 refused 5\n3 refused 4\n4 refused 5\n5 held 0\n6 held 0\n7 refused 16\n8 done 20\n9 held 0\n10 done 21\n11 done 30\n12 refused 6\n13 refused 5\n14 refused 5\n15 held 0\n16 refused 6\n17 done 20\n18 refused 14\n19 done 2\n20 done 40\n"
+    "1 done 20\n2 held 0\n3 done 21\n4 done 30\n5 refused 6\n6 refused 5\n7 refused 5\n8 held 0\n9 refused 6\n10 done 20\n11 refused 14\n12 done 2\n13 done 40\n"
     -- each call on `/`
     ∷ answers-so room
     (enters 1 0
@@ -71,7 +77,13 @@ call-rules =
     ∷ links 1 "/file" "/gone"
     ∷ links 1 "/file" "/in"
     ∷ links 1 "/new" "/in"
+    ∷ [])
+    "1 done 1\n2 done 2\n3 done 3\n4 refused 8\n5 refused 9\n6 refused 10\n7 refused 11\n8 refused 12\n"
     -- 10 and 12 of the others; `/` is refused with 12 before its entries count
+    ∷ answers-so room
+    (enters 1 0
+    ∷ creates 1 "/file"
+    ∷ mkdirs 1 "/in"
     ∷ uses 1 "/gone"
     ∷ unlinks 1 "/gone"
     ∷ rmdirs 1 "/gone"
@@ -80,7 +92,7 @@ call-rules =
     ∷ rmdirs 1 "/"
     ∷ creates 1 "/in"
     ∷ [])
-    "1 done 1\n2 done 2\n3 done 3\n4 refused 8\n5 refused 9\n6 refused 10\n7 refused 11\n8 refused 12\n9 refused 10\n10 refused 10\n11 refused 10\n12 refused 12\n13 refused 12\n14 refused 12\n15 refused 11\n"
+    "1 done 1\n2 done 2\n3 done 3\n4 refused 10\n5 refused 10\n6 refused 10\n7 refused 12\n8 refused 12\n9 refused 12\n10 refused 11\n"
     -- 10, 11 and 12 before 14: 500 holds an absence, a file and a directory
     ∷ answers-so room
     (enters 20 500

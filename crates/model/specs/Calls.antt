@@ -8,10 +8,10 @@ use lib.Dec.{eqb}
 use lib.ListN.{getD, set}
 use Rattle.model.specs.Lists.{any, first, put, clear}
 use Rattle.model.specs.Refusals.{Outcome, refused, granted, _when_, _>>_, _>>=_}
-use Rattle.model.specs.Tables.{Place, Entry, Node, Hold, Process, Tables, a-file, a-directory, a-link, no-entry, no-node, no-process, free-entry, free-node, free-process, node-at, is-directory, at, is-process, listed, user-of}
+use Rattle.model.specs.Tables.{Place, Entry, Node, Hold, Process, Tables, with-entries, with-nodes, with-holds, with-processes, a-file, a-directory, a-link, no-entry, no-node, no-process, free-entry, free-node, free-process, node-at, is-directory, at, is-process, listed, user-of}
 use Rattle.model.specs.Records.{Call}
 use Rattle.model.specs.Walk.{Goal, walk}
-use Rattle.model.specs.Holds.{root, inside, of-process, end-held, entry-held, inside-held, wanted, lacking, no-room, add-holds, copies, drop-holds, preempted, overruled}
+use Rattle.model.specs.Holds.{root, of-process, end-held, entry-held, inside-held, wanted, lacking, no-room, add-holds, copies, drop-holds, preempted, overruled, emptied, taking}
 use Rattle.model.specs.declared.Answer.{Answer}
 use Rattle.model.specs.declared.Answer.the-variants.{Held, Seen, Done}
 
@@ -27,12 +27,24 @@ grant a t = granted (record { answer = a; tables = t })
 unfoldable pub unlisted : Tables → ℕ → Bool
 unlisted t p = not (listed (t .processes) p)
 
--- CALLS 1 TO 4: PROCESSES
+-- Numbers given back, 4 and then the walk's numbers: where a path leads process p
+unfoldable pub reaching : Tables → ℕ → Bool → List ℕ → Outcome Goal
+reaching t p follow-last path = do
+  4 when unlisted t p
+  walk (t .entries) (t .nodes) follow-last path
 
--- calls 1 to 7 leave entries and nodes alone
-abbrev pub with-holds-and-processes : Tables → List Hold → List Process → Tables
-with-holds-and-processes t holds processes =
-    record { entries = t .entries; nodes = t .nodes; holds = holds; processes = processes }
+-- Numbers given back, the calls with two paths: path 1 is walked before path 2; neither walk follows a last link
+pub record Ends : Type 0 where
+  pub new : Goal
+  pub old : Goal
+
+unfoldable pub reaching-both : Tables → ℕ → List ℕ → List ℕ → Outcome Ends
+reaching-both t p path1 path2 = do
+  new ← reaching t p false path1
+  old ← walk (t .entries) (t .nodes) false path2
+  granted (record { new = new; old = old })
+
+-- CALLS 1 TO 4: PROCESSES
 
 -- Numbers given back, 6: every row of the processes is in use
 unfoldable pub no-free-process : Tables → Bool
@@ -52,7 +64,7 @@ enter t r = do
   5 when listed (t .processes) (r .process)  -- a process already
   6 when no-free-process t
   grant (Done (r .process))
-      (with-holds-and-processes t (t .holds) (add-process (r .process) (r .argument) (t .processes)))
+      (with-processes t (add-process (r .process) (r .argument) (t .processes)))
 
 -- The thirteen calls, 2, and Holds, fork: the child gets the parent's user, and copies of its holds
 unfoldable pub fork : Tables → Call → Outcome Change
@@ -63,21 +75,21 @@ fork t r = do
   let new = copies (r .process) (r .argument) (t .holds)
   16 when no-room t new
   grant (Done (r .argument))
-      (with-holds-and-processes t (add-holds new (t .holds))
+      (with-processes (with-holds t (add-holds new (t .holds)))
       (add-process (r .argument) (user-of (t .processes) (r .process)) (t .processes)))
 
 -- The thirteen calls, 3, and Holds, exec: the caller's holds are dropped
 unfoldable pub exec : Tables → Call → Outcome Change
 exec t r = do
   4 when unlisted t (r .process)
-  grant (Done (r .process)) (with-holds-and-processes t (drop-holds (of-process (r .process)) (t .holds)) (t .processes))
+  grant (Done (r .process)) (with-holds t (drop-holds (of-process (r .process)) (t .holds)))
 
 -- The thirteen calls, 4, and Holds, exit: they are dropped, and the process
 unfoldable pub exit : Tables → Call → Outcome Change
 exit t r = do
   4 when unlisted t (r .process)
   grant (Done (r .process))
-      (with-holds-and-processes t (drop-holds (of-process (r .process)) (t .holds)) (drop-process (r .process) (t .processes)))
+      (with-processes (with-holds t (drop-holds (of-process (r .process)) (t .holds))) (drop-process (r .process) (t .processes)))
 
 -- CALLS 5 TO 7: CHECK, LOOK AND USE
 
@@ -88,9 +100,8 @@ absent g = eqb (g .node) 0
 -- Holds: a held call takes what the process lacks, after root's drops
 unfoldable pub hold-at : Tables → ℕ → Goal → Outcome Change
 hold-at t p g = do
-  let new = lacking (t .holds) (wanted p g)
-  16 when no-room t new
-  grant (Held (g .node)) (with-holds-and-processes t (add-holds new (drop-holds (preempted t p g) (t .holds))) (t .processes))
+  16 when no-room t (lacking (t .holds) (wanted p g))
+  grant (Held (g .node)) (with-holds t (taking t (wanted p g) (preempted t p g)))
 
 -- Holds: seen where another user has an end hold on the end entry and the caller is not root, and else held
 unfoldable pub seen-or-held : Tables → ℕ → Goal → Outcome Change
@@ -105,8 +116,7 @@ look-at must-exist t p g = do
 -- Walking a path, what calls 5 to 7 share: `follow-last` where a link at the last name is followed; `must-exist` where an absence is refused
 unfoldable pub looking : Bool → Bool → Tables → Call → Outcome Change
 looking follow-last must-exist t r = do
-  4 when unlisted t (r .process)
-  g ← walk (t .entries) (t .nodes) follow-last (r .path1)
+  g ← reaching t (r .process) follow-last (r .path1)
   look-at must-exist t (r .process) g
 
 -- The thirteen calls, 5: it follows a last link, and an absence will do
@@ -161,21 +171,12 @@ one-more x = record { kind = x .kind; count = x .count + 1; target = x .target }
 unfoldable pub one-less : Node → Node
 one-less x = elim (eqb (x .count) 1) [ true ↦ no-node | false ↦ record { kind = x .kind; count = x .count - 1; target = x .target } ]
 
--- Holds: drops come first, so these are the holds that a creation or removal adds to
-unfoldable pub after-overruling : Tables → ℕ → Goal → List Hold
-after-overruling t p g = drop-holds (overruled t p g) (t .holds)
-
 -- CALLS 8 TO 11: CREATION
 
 -- Holds, creation: a new entry at the end of the walk leads to node n, which is now x, and the holds on path 1 are taken
-unfoldable pub with-entry : Tables → ℕ → Goal → ℕ → Node → List Hold → Tables
-with-entry t p g n x new =
-    record {
-      entries = add-entry (g .end) n (t .entries);
-      nodes = set-node n x (t .nodes);
-      holds = add-holds new (after-overruling t p g);
-      processes = t .processes;
-    }
+unfoldable pub with-entry : Tables → ℕ → Goal → ℕ → Node → Tables
+with-entry t p g n x =
+    with-holds (with-nodes (with-entries t (add-entry (g .end) n (t .entries))) (set-node n x (t .nodes))) (taking t (wanted p g) (overruled t p g))
 
 -- Numbers given back, calls 8 to 10 behind their walk
 unfoldable pub make-at : ℕ → List ℕ → Tables → ℕ → Goal → Outcome Change
@@ -183,16 +184,14 @@ make-at kind target t p g = do
   11 when not (absent g)  -- something is there; of `/` the walk always finds node 1
   14 when blocked t p g
   15 when no-free-entry t || no-free-node t
-  let new = lacking (t .holds) (wanted p g)
-  16 when no-room t new
+  16 when no-room t (lacking (t .holds) (wanted p g))
   let n = new-node (t .nodes)
-  grant (Done n) (with-entry t p g n (record { kind = kind; count = 1; target = target }) new)
+  grant (Done n) (with-entry t p g n (record { kind = kind; count = 1; target = target }))
 
 -- The thirteen calls, 8 to 10: a new node of this kind with this target; a last link is not followed
 unfoldable pub make : ℕ → List ℕ → Tables → Call → Outcome Change
 make kind target t r = do
-  4 when unlisted t (r .process)
-  g ← walk (t .entries) (t .nodes) false (r .path1)
+  g ← reaching t (r .process) false (r .path1)
   make-at kind target t (r .process) g
 
 -- The thirteen calls, 8: a file
@@ -215,29 +214,22 @@ link-at t p g old = do
   12 when is-directory (t .nodes) (old .node)  -- a directory has one entry
   14 when blocked t p g
   15 when no-free-entry t
-  let new = lacking (t .holds) (wanted p g)
-  16 when no-room t new
-  grant (Done (old .node)) (with-entry t p g (old .node) (one-more (node-at (t .nodes) (old .node))) new)
+  16 when no-room t (lacking (t .holds) (wanted p g))
+  grant (Done (old .node)) (with-entry t p g (old .node) (one-more (node-at (t .nodes) (old .node))))
 
 -- The thirteen calls, 11: one more entry leads to the old path's node; path 1 is walked before path 2
 unfoldable pub link : Tables → Call → Outcome Change
 link t r = do
-  4 when unlisted t (r .process)
-  g ← walk (t .entries) (t .nodes) false (r .path1)
-  old ← walk (t .entries) (t .nodes) false (r .path2)
-  link-at t (r .process) g old
+  ends ← reaching-both t (r .process) (r .path1) (r .path2)
+  link-at t (r .process) (ends .new) (ends .old)
 
 -- CALLS 12 AND 13: REMOVAL
 
 -- Holds, removal: the entry at the end of the walk is gone, and one entry less leads to its node
 unfoldable pub without-entry : Tables → Goal → List Hold → Tables
 without-entry t g holds =
-    record {
-      entries = drop-entry (g .end) (t .entries);
-      nodes = set-node (g .node) (one-less (node-at (t .nodes) (g .node))) (t .nodes);
-      holds = holds;
-      processes = t .processes;
-    }
+    let nodes = set-node (g .node) (one-less (node-at (t .nodes) (g .node))) (t .nodes) in
+    with-holds (with-nodes (with-entries t (drop-entry (g .end) (t .entries))) nodes) holds
 
 -- Numbers given back, call 12 behind its walk
 unfoldable pub unlink-at : Tables → ℕ → Goal → Outcome Change
@@ -245,15 +237,13 @@ unlink-at t p g = do
   10 when absent g  -- nothing is there
   12 when is-directory (t .nodes) (g .node)  -- rmdir is for those
   14 when blocked t p g
-  let new = lacking (t .holds) (wanted p g)
-  16 when no-room t new
-  grant (Done (g .node)) (without-entry t g (add-holds new (after-overruling t p g)))
+  16 when no-room t (lacking (t .holds) (wanted p g))
+  grant (Done (g .node)) (without-entry t g (taking t (wanted p g) (overruled t p g)))
 
 -- The thirteen calls, 12: a file or a link loses the entry at the path
 unfoldable pub unlink : Tables → Call → Outcome Change
 unlink t r = do
-  4 when unlisted t (r .process)
-  g ← walk (t .entries) (t .nodes) false (r .path1)
+  g ← reaching t (r .process) false (r .path1)
   unlink-at t (r .process) g
 
 -- Walking a path: the walk stopped at node 1 by `/`, where no end entry is
@@ -275,15 +265,13 @@ rmdir-at t p g = do
   12 when at-root g || not (is-directory (t .nodes) (g .node))  -- `/` itself, or no directory
   13 when has-entries (t .entries) (g .node)  -- it is not empty
   14 when directory-blocked t p g
-  let new = lacking (t .holds) (wanted p g)
-  16 when no-room t new
-  grant (Done (g .node)) (without-entry t g (add-holds new (drop-holds (inside (g .node)) (after-overruling t p g))))
+  16 when no-room t (lacking (t .holds) (wanted p g))
+  grant (Done (g .node)) (without-entry t g (taking t (wanted p g) (emptied t p g)))
 
 -- The thirteen calls, 13: an empty directory is removed, with all holds on names inside it
 unfoldable pub rmdir : Tables → Call → Outcome Change
 rmdir t r = do
-  4 when unlisted t (r .process)
-  g ← walk (t .entries) (t .nodes) false (r .path1)
+  g ← reaching t (r .process) false (r .path1)
   rmdir-at t (r .process) g
 
 -- THE THIRTEEN CALLS
@@ -312,5 +300,7 @@ step t r =
     (refused 2)
 
 unfoldable pub computing-calls : Unit {0}
-unfolding unlisted no-free-process add-process drop-process enter fork exec exit absent hold-at seen-or-held look-at looking check look use-of blocked no-free-entry no-free-node new-node set-node add-entry drop-entry one-more one-less after-overruling with-entry make-at make create mkdir symlink link-at link without-entry unlink-at unlink at-root has-entries directory-blocked rmdir-at rmdir step
+unfolding unlisted reaching reaching-both no-free-process add-process drop-process enter fork exec exit absent hold-at seen-or-held look-at looking
+    check look use-of blocked no-free-entry no-free-node new-node set-node add-entry drop-entry one-more one-less with-entry make-at make create mkdir
+    symlink link-at link without-entry unlink-at unlink at-root has-entries directory-blocked rmdir-at rmdir step
 computing-calls = tt

@@ -1,5 +1,5 @@
 -- Document 01, 'Holds': who holds what, and which holds a call takes and drops. Assumes nothing.
-use mathlib.Core.Bool.{Bool, true, false, not, _&&_}
+use mathlib.Core.Bool.{Bool, true, false, not, _&&_, _||_}
 use mathlib.Core.List.{List, [], _∷_, _++_, map}
 use mathlib.Core.Option.{Option, none, some}
 use Prim.Native.Nat.{ℕ}
@@ -95,6 +95,16 @@ preempted t p g h = root t p && is-end h && on (g .end) h && foreign t p h
 unfoldable pub overruled : Tables → ℕ → Goal → Hold → Bool
 overruled t p g h = root t p && on (g .end) h && foreign t p h
 
+-- Holds, rmdir: with what root drops, every hold on an entry inside the directory
+unfoldable pub emptied : Tables → ℕ → Goal → Hold → Bool
+emptied t p g h = overruled t p g h || inside (g .node) h
+
+-- WHAT A CALL LEAVES
+
+-- Holds: the holds after a call that was granted: some are gone, and then what is lacking of what it wants is taken
+unfoldable pub taking : Tables → List Hold → (Hold → Bool) → List Hold
+taking t wants gone = add-holds (lacking (t .holds) wants) (drop-holds gone (t .holds))
+
 unfoldable pub computing-holds : Unit {0}
-unfolding root foreign on inside of-process end-held entry-held inside-held hold-by end-wanted wanted lacking no-room add-holds copy-for copies drop-holds preempted overruled
+unfolding root foreign on inside of-process end-held entry-held inside-held hold-by end-wanted wanted lacking no-room add-holds copy-for copies drop-holds preempted overruled emptied taking
 computing-holds = tt

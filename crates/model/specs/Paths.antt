@@ -16,6 +16,16 @@ slash = 47
 abbrev pub dot : ℕ
 dot = 46
 
+-- Paths: how many bytes a name, a path and a target may have
+abbrev pub longest-name : ℕ
+longest-name = 14
+
+abbrev pub longest-path : ℕ
+longest-path = 255
+
+abbrev pub longest-target : ℕ
+longest-target = 64
+
 -- a byte in front of parts: a slash begins a part of its own, any other byte belongs to the first part
 unfoldable pub before : Bool → ℕ → List Name → List Name
 before true b parts = [] ∷ parts
@@ -48,15 +58,19 @@ name-byte b = not (eqb b 0) && not (eqb b slash)
 -- Paths, a name: 1 to 14 such bytes, and not one dot or two dots alone
 unfoldable pub valid-name : Name → Bool
 valid-name n =
-    leb 1 (length n) && leb (length n) 14 && all name-byte n && not (same n (dot ∷ [])) && not (same n (dot ∷ dot ∷ []))
+    leb 1 (length n) && leb (length n) longest-name && all name-byte n && not (same n (dot ∷ [])) && not (same n (dot ∷ dot ∷ []))
 
--- Paths, a path: 1 to 255 bytes, a slash first, and valid names between single slashes, or no name at all
+-- Paths: valid names between single slashes, or no name at all
+abbrev pub valid-names : List ℕ → Bool
+valid-names s = all valid-name (names s)
+
+-- Paths, a path: 1 to 255 bytes, a slash first, and valid names
 unfoldable pub valid-path : List ℕ → Bool
-valid-path s = leb 1 (length s) && leb (length s) 255 && absolute s && all valid-name (names s)
+valid-path s = leb 1 (length s) && leb (length s) longest-path && absolute s && valid-names s
 
 -- Paths, a target: 1 to 64 bytes, a path or one without its first slash
 unfoldable pub valid-target : List ℕ → Bool
-valid-target s = leb 1 (length s) && leb (length s) 64 && all valid-name (names s)
+valid-target s = leb 1 (length s) && leb (length s) longest-target && valid-names s
 
 unfoldable pub computing-paths : Unit {0}
 unfolding before parts absolute names-behind names name-byte valid-name valid-path valid-target

@@ -2,7 +2,7 @@
 use mathlib.Core.Bool.{Bool, true, false, not, _&&_, _||_}
 use mathlib.Core.List.{List, [], _∷_, _++_}
 use Prim.Native.Nat.{ℕ, zero, suc, _+_, _*_, _^_}
-use lib.Dec.{eqb, leb, ltb}
+use lib.Dec.{eqb, ltb}
 use lib.ListN.{length, getD, take, drop}
 use Rattle.model.specs.Lists.{empty}
 use Rattle.model.specs.Refusals.{Outcome, refused, granted, _when_, _>>_, _>>=_}
@@ -28,42 +28,70 @@ pub data Class : Type 0 where
 pub data Wanted : Type 0 where
   blank path target : Wanted
 
--- The thirteen calls, a row: the class, whether the argument is wanted, what each path is to be
+-- Holds, entries accounted for: what an accepted call does to the entries; one that moves an entry has a rule of its own
+pub data Effect : Type 0 where
+  one-more-entry one-entry-less own-rule entries-stay : Effect
+
+-- The thirteen calls, a row: whether there is such a call, whether it is made by a process, the class, whether the argument is wanted, what each
+-- path is to be, and what the call does to the entries
 pub record Row : Type 0 where
+  pub there : Bool
+  pub by-process : Bool
   pub class : Class
   pub argument : Bool
   pub path1 : Wanted
   pub path2 : Wanted
+  pub effect : Effect
 
-abbrev row : Class → Bool → Wanted → Wanted → Row
-row c a p q = record { class = c; argument = a; path1 = p; path2 = q }
+abbrev row : Class → Bool → Wanted → Wanted → Effect → Row
+row c a p q e = record { there = true; by-process = true; class = c; argument = a; path1 = p; path2 = q; effect = e }
+
+-- a number that is no call's: blanks alone
+abbrev no-call : Row
+no-call =
+    record {
+      there = false;
+      by-process = true;
+      class = process-class;
+      argument = false;
+      path1 = blank;
+      path2 = blank;
+      effect = entries-stay;
+    }
 
 -- The thirteen calls, the table
 unfoldable pub calls : List Row
 calls =
-    row process-class true blank blank  -- 1 enter: user
-    ∷ row process-class true blank blank  -- 2 fork: child
-    ∷ row process-class false blank blank  -- 3 exec
-    ∷ row process-class false blank blank  -- 4 exit
-    ∷ row check-class false path blank  -- 5 check
-    ∷ row check-class false path blank  -- 6 look
-    ∷ row use-class false path blank  -- 7 use
-    ∷ row creation-class false path blank  -- 8 create
-    ∷ row creation-class false path blank  -- 9 mkdir
-    ∷ row creation-class false path target  -- 10 symlink
-    ∷ row creation-class false path path  -- 11 link: new path, old path
-    ∷ row removal-class false path blank  -- 12 unlink
-    ∷ row removal-class false path blank  -- 13 rmdir
+    row process-class true blank blank entries-stay  -- 1 enter: user
+    ∷ row process-class true blank blank entries-stay  -- 2 fork: child
+    ∷ row process-class false blank blank entries-stay  -- 3 exec
+    ∷ row process-class false blank blank entries-stay  -- 4 exit
+    ∷ row check-class false path blank entries-stay  -- 5 check
+    ∷ row check-class false path blank entries-stay  -- 6 look
+    ∷ row use-class false path blank entries-stay  -- 7 use
+    ∷ row creation-class false path blank one-more-entry  -- 8 create
+    ∷ row creation-class false path blank one-more-entry  -- 9 mkdir
+    ∷ row creation-class false path target one-more-entry  -- 10 symlink
+    ∷ row creation-class false path path one-more-entry  -- 11 link: new path, old path
+    ∷ row removal-class false path blank one-entry-less  -- 12 unlink
+    ∷ row removal-class false path blank one-entry-less  -- 13 rmdir
     ∷ []
 
--- The thirteen calls: a call's row; an unknown call's has blanks alone
+-- The thirteen calls: a call's row
 unfoldable pub row-of : ℕ → Row
-row-of zero = row process-class false blank blank
-row-of (suc n) = getD calls n (row process-class false blank blank)
+row-of zero = no-call
+row-of (suc n) = getD calls n no-call
 
 -- Numbers given back, 2: calls 1 to 13 are known
 unfoldable pub known : ℕ → Bool
-known c = leb 1 c && leb c (length calls)
+known c = row-of c .there
+
+-- whether a call with this effect leaves every entry as it was, accepted or not
+unfoldable pub keeps-entries : Effect → Bool
+keeps-entries one-more-entry = false
+keeps-entries one-entry-less = false
+keeps-entries own-rule = false
+keeps-entries entries-stay = true
 
 -- Numbers given back, 2: a path stands where the table has a blank
 unfoldable pub not-blank : Wanted → List ℕ → Bool
@@ -84,7 +112,7 @@ fork-call = 2
 -- Numbers given back, 2: an unknown call, process 0, child 0, something in a blank cell, zero bits set
 unfoldable pub fields-broken : Call → Bool
 fields-broken r =
-    not (known (r .call)) || eqb (r .process) 0 || (eqb (r .call) fork-call && eqb (r .argument) 0)
+    not (known (r .call)) || (row-of (r .call) .by-process && eqb (r .process) 0) || (eqb (r .call) fork-call && eqb (r .argument) 0)
     || (not (row-of (r .call) .argument) && not (eqb (r .argument) 0))
     || not-blank (row-of (r .call) .path1) (r .path1)
     || not-blank (row-of (r .call) .path2) (r .path2)

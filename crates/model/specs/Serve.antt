@@ -107,5 +107,7 @@ run w s slots =
 
 -- A handle: `unfolding computing` opens the whole model up to here.
 unfoldable pub computing : Unit {0}
-unfolding computing-lists computing-refusals computing-answers computing-paths computing-tables computing-words computing-sound computing-records computing-walk computing-holds computing-calls judged-with judged served serve after answers fresh-words made-fresh records-within records whole-records run
+unfolding computing-lists computing-refusals computing-answers computing-paths computing-tables computing-words computing-sound computing-records
+    computing-walk computing-holds computing-calls judged-with judged served serve after answers fresh-words made-fresh records-within records
+    whole-records run
 computing = tt

@@ -119,5 +119,7 @@ unfoldable pub sound : List ℕ → Bool
 sound w = sound-with w (unpack w)
 
 unfoldable pub computing-sound : Unit {0}
-unfolding each-used each-node same-entry entries-distinct entries-in-directories entries-lead-to-nodes leading-to counts-right first-node-right count-fits counts-fit same-hold holds-distinct holds-in-directories holds-of-listed is-end agree ends-of-one-user same-process processes-distinct names-valid roles-valid target-fits targets-valid sound-rows exact sound-with sound
+unfolding each-used each-node same-entry entries-distinct entries-in-directories entries-lead-to-nodes leading-to counts-right first-node-right
+    count-fits counts-fit same-hold holds-distinct holds-in-directories holds-of-listed is-end agree ends-of-one-user same-process processes-distinct
+    names-valid roles-valid target-fits targets-valid sound-rows exact sound-with sound
 computing-sound = tt

@@ -41,6 +41,19 @@ pub record Tables : Type 0 where
   pub holds : List Hold
   pub processes : List Process
 
+-- the tables with one of the four replaced
+abbrev pub with-entries : Tables → List Entry → Tables
+with-entries t x = record { entries = x; nodes = t .nodes; holds = t .holds; processes = t .processes }
+
+abbrev pub with-nodes : Tables → List Node → Tables
+with-nodes t x = record { entries = t .entries; nodes = x; holds = t .holds; processes = t .processes }
+
+abbrev pub with-holds : Tables → List Hold → Tables
+with-holds t x = record { entries = t .entries; nodes = t .nodes; holds = x; processes = t .processes }
+
+abbrev pub with-processes : Tables → List Process → Tables
+with-processes t x = record { entries = t .entries; nodes = t .nodes; holds = t .holds; processes = x }
+
 -- The lent tables, nodes and holds: the kinds of used nodes, and the roles
 abbrev pub a-file : ℕ
 a-file = 1
@@ -134,12 +147,16 @@ hold-rows = 256
 abbrev pub process-rows : ℕ
 process-rows = 64
 
+-- The lent tables: what stands behind node 1 in fresh ones
+abbrev pub other-nodes : ℕ
+other-nodes = 255
+
 -- The lent tables: fresh ones have all rows free but node 1, a directory to which no entry leads
 unfoldable pub fresh : Tables
 fresh =
     record {
       entries = replicate entry-rows no-entry;
-      nodes = record { kind = a-directory; count = 0; target = [] } ∷ replicate 255 no-node;
+      nodes = record { kind = a-directory; count = 0; target = [] } ∷ replicate other-nodes no-node;
       holds = replicate hold-rows no-hold;
       processes = replicate process-rows no-process;
     }

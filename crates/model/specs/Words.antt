@@ -5,8 +5,49 @@ use Prim.Native.Nat.{ℕ, _+_, _*_, _^_, _/_, _%_}
 use lib.Dec.{eqb}
 use lib.ListN.{length, getD, take, drop, replicate}
 use Rattle.model.specs.Lists.{pieces, joined, filled}
-use Rattle.model.specs.Paths.{Name}
+use Rattle.model.specs.Paths.{Name, longest-name, longest-target}
 use Rattle.model.specs.Tables.{Entry, Node, Hold, Process, Tables, no-entry, no-node, no-hold, no-process, free-entry, free-node, free-hold, free-process, entry-rows, node-rows, hold-rows, process-rows}
+
+-- THE LENT SLICE
+
+-- The lent tables: how many words a row of each has
+abbrev pub entry-words : ℕ
+entry-words = 5
+
+abbrev pub node-words : ℕ
+node-words = 17
+
+abbrev pub hold-words : ℕ
+hold-words = 6
+
+abbrev pub process-words : ℕ
+process-words = 1
+
+-- The lent tables: how many words each has
+abbrev pub all-entry-words : ℕ
+all-entry-words = 2560
+
+abbrev pub all-node-words : ℕ
+all-node-words = 4352
+
+abbrev pub all-hold-words : ℕ
+all-hold-words = 1536
+
+abbrev pub all-process-words : ℕ
+all-process-words = 64
+
+-- The lent tables: the first word of each but the entries, and how many there are in all
+abbrev pub first-node-word : ℕ
+first-node-word = 2560
+
+abbrev pub first-hold-word : ℕ
+first-hold-word = 6912
+
+abbrev pub first-process-word : ℕ
+first-process-word = 8448
+
+abbrev pub word-count : ℕ
+word-count = 8512
 
 -- the k bits of a number above its lowest n
 unfoldable pub bits : ℕ → ℕ → ℕ → ℕ
@@ -26,10 +67,10 @@ bytes (w ∷ ws) = let rest = bytes ws in bits 24 8 w ∷ bits 16 8 w ∷ bits 8
 
 -- The lent tables, a name block: the length, 14 bytes with zeros behind the name, and a zero byte
 unfoldable pub pack-name : Name → List ℕ
-pack-name n = words (length n ∷ filled 15 n)
+pack-name n = words (length n ∷ filled (longest-name + 1) n)
 
 unfoldable pub unpack-name : List ℕ → Name
-unpack-name ws = let bs = bytes ws in take (getD bs 0 0) (take 14 (drop 1 bs))
+unpack-name ws = let bs = bytes ws in take (getD bs 0 0) (take longest-name (drop 1 bs))
 
 -- Whatever bits stand beside the mark of a free row, it is read as no row at all and written as zeros; whether they were zeros is for `sound` to ask.
 
@@ -37,7 +78,7 @@ unpack-name ws = let bs = bytes ws in take (getD bs 0 0) (take 14 (drop 1 bs))
 unfoldable pub pack-entry : Entry → List ℕ
 pack-entry e =
     elim (free-entry e) [
-      | true ↦ replicate 5 0
+      | true ↦ replicate entry-words 0
       | false ↦ (e .place .directory * 2 ^ 16 + e .node) ∷ pack-name (e .place .name)
     ]
 
@@ -53,8 +94,8 @@ unpack-entry ws =
 unfoldable pub pack-node : Node → List ℕ
 pack-node x =
     elim (free-node x) [
-      | true ↦ replicate 17 0
-      | false ↦ (x .kind * 2 ^ 30 + length (x .target) * 2 ^ 23 + x .count * 2 ^ 13) ∷ words (filled 64 (x .target))
+      | true ↦ replicate node-words 0
+      | false ↦ (x .kind * 2 ^ 30 + length (x .target) * 2 ^ 23 + x .count * 2 ^ 13) ∷ words (filled longest-target (x .target))
     ]
 
 unfoldable pub unpack-node : List ℕ → Node
@@ -69,7 +110,7 @@ unpack-node ws =
 unfoldable pub pack-hold : Hold → List ℕ
 pack-hold h =
     elim (free-hold h) [
-      | true ↦ replicate 6 0
+      | true ↦ replicate hold-words 0
       | false ↦ (h .place .directory * 2 ^ 16 + h .process) ∷ (pack-name (h .place .name) ++ ((h .role * 2 ^ 30) ∷ []))
     ]
 
@@ -95,20 +136,6 @@ unpack-process ws =
     let w = getD ws 0 0 in
     elim (eqb (bits 16 16 w) 0) [ true ↦ no-process | false ↦ record { number = bits 16 16 w; user = bits 0 16 w } ]
 
--- THE LENT SLICE: the first word of each table but the entries, and the words of a row; 8,512 in all
-
-abbrev pub first-node-word : ℕ
-first-node-word = 2560
-
-abbrev pub first-hold-word : ℕ
-first-hold-word = 6912
-
-abbrev pub first-process-word : ℕ
-first-process-word = 8448
-
-abbrev pub word-count : ℕ
-word-count = 8512
-
 -- The lent tables: the four tables one behind the other
 unfoldable pub pack : Tables → List ℕ
 pack t =
@@ -118,10 +145,10 @@ pack t =
 unfoldable pub unpack : List ℕ → Tables
 unpack w =
     record {
-      entries = map unpack-entry (pieces entry-rows 5 w);
-      nodes = map unpack-node (pieces node-rows 17 (drop first-node-word w));
-      holds = map unpack-hold (pieces hold-rows 6 (drop first-hold-word w));
-      processes = map unpack-process (pieces process-rows 1 (drop first-process-word w));
+      entries = map unpack-entry (pieces entry-rows entry-words w);
+      nodes = map unpack-node (pieces node-rows node-words (drop first-node-word w));
+      holds = map unpack-hold (pieces hold-rows hold-words (drop first-hold-word w));
+      processes = map unpack-process (pieces process-rows process-words (drop first-process-word w));
     }
 
 unfoldable pub computing-words : Unit {0}

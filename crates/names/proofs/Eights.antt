@@ -16,7 +16,7 @@ use Rattle.laws.proofs.Bools.{and-middle}
 use Rattle.laws.proofs.Each.{Each, none, one, each-replicate}
 use Rattle.laws.proofs.Pieces.{Byte, Word, same-step, same-equal, equal-same, bytes-are-bytes, words-of-bytes}
 use Rattle.rows.proofs.Blocks.{same-when}
-use Rattle.names.specs.Fits.{byte-fits, fits, number, tops, differing}
+use Rattle.names.specs.Fits.{byte-fits, fits, number, tops, low-bits, top-bits, slashes, differing}
 
 -- BYTE BY BYTE
 
@@ -118,10 +118,10 @@ unfolding tops fits same
 bytes-fit zero none = refl
 bytes-fit (suc n) none = refl
 bytes-fit zero (one {x = b} {xs = s} h es) =
-    both-same (differing 127 128 0 b) 0 (differing 127 128 47 b) 128 (map (differing 127 128 0) s) (tops 0 (length s)) (map (differing 127 128 47) s) (replicate (length s) 128)
+    both-same (differing 127 128 0 b) 0 (differing 127 128 47 b) 128 (map (differing 127 128 0) s) (tops 0 (length s)) (map (differing 127 128 47) s) _
     ∙ ap₂ _&&_ (behind-marks b h) (bytes-fit zero es)
 bytes-fit (suc n) (one {x = b} {xs = s} h es) =
-    both-same (differing 127 128 0 b) 128 (differing 127 128 47 b) 128 (map (differing 127 128 0) s) (tops n (length s)) (map (differing 127 128 47) s) (replicate (length s) 128)
+    both-same (differing 127 128 0 b) 128 (differing 127 128 47 b) 128 (map (differing 127 128 0) s) (tops n (length s)) (map (differing 127 128 47) s) _
     ∙ ap₂ _&&_ (inside-marks b h) (bytes-fit n es)
 
 marks-are-bytes : (v : ℕ) {s : List ℕ} → Each Byte s → Each Byte (map (differing 127 128 v) s)
@@ -148,7 +148,7 @@ tops-long (suc n) (suc room) = ap suc (tops-long n room)
 -- EIGHT BYTES
 
 abbrev pub half-marks : ℕ → ℕ → ℕ
-half-marks = differing 9187201950435737471 9259542123273814144
+half-marks = differing low-bits top-bits
 
 module _ (a b n : ℕ) (wa : Word a) (wb : Word b) where
   abbrev eight : List ℕ
@@ -163,41 +163,28 @@ module _ (a b n : ℕ) (wa : Word a) (wb : Word b) where
       omega arith
 
   -- both comparisons of the eight bytes
-  pub eight-fit : (eqb (half-marks 0 (a * 4294967296 + b)) (number 0 (tops n 8)) && eqb (half-marks 3399988123389603631 (a * 4294967296 + b)) 9259542123273814144) ≡ fits n eight
+  pub eight-fit : (eqb (half-marks 0 (a * 4294967296 + b)) (number 0 (tops n 8)) && eqb (half-marks slashes (a * 4294967296 + b)) top-bits) ≡ fits n eight
   unfolding number bytes tops differing
   eight-fit =
       let small = bytes-are-bytes (a ∷ b ∷ []) in
       let x : half-marks 0 (a * 4294967296 + b) ≡ number 0 (map (differing 127 128 0) eight)
       = ap (half-marks 0) (sym eight-number) ∙ differing-bytes 0 (omega arith) 0 0 0 0 small in
-      let y : half-marks 3399988123389603631 (a * 4294967296 + b) ≡ number 0 (map (differing 127 128 47) eight)
-      = ap (half-marks 3399988123389603631) (sym eight-number) ∙ differing-bytes 47 (omega arith) 0 0 0 0 small in
+      let y : half-marks slashes (a * 4294967296 + b) ≡ number 0 (map (differing 127 128 47) eight)
+      = ap (half-marks slashes) (sym eight-number) ∙ differing-bytes 47 (omega arith) 0 0 0 0 small in
       ap₂ _&&_
       (ap (λ z. eqb z (number 0 (tops n 8))) x ∙ number-same (marks-are-bytes 0 small) (tops-are-bytes n 8) (tops-long n 8))
-      (ap (λ z. eqb z 9259542123273814144) y ∙ number-same (marks-are-bytes 47 small) (each-replicate 8 128 (omega arith)) refl)
+      (ap (λ z. eqb z top-bits) y ∙ number-same (marks-are-bytes 47 small) (each-replicate 8 128 (omega arith)) refl)
       ∙ bytes-fit n small
 
 -- THE TOP BITS OF THE FIRST BYTES
 
-pub tops-all : (n : ℕ) → 7 < n → 9259542123273814144 ≡ number 0 (tops n 8)
+pub tops-all : (n : ℕ) → 7 < n → top-bits ≡ number 0 (tops n 8)
 unfolding number tops
-tops-all zero h = absurd (omega arith)
-tops-all (suc zero) h = absurd (omega arith)
-tops-all (suc (suc zero)) h = absurd (omega arith)
-tops-all (suc (suc (suc zero))) h = absurd (omega arith)
-tops-all (suc (suc (suc (suc zero)))) h = absurd (omega arith)
-tops-all (suc (suc (suc (suc (suc zero))))) h = absurd (omega arith)
-tops-all (suc (suc (suc (suc (suc (suc zero)))))) h = absurd (omega arith)
-tops-all (suc (suc (suc (suc (suc (suc (suc zero))))))) h = absurd (omega arith)
-tops-all (suc (suc (suc (suc (suc (suc (suc (suc n)))))))) h = refl
+tops-all n h = let e : suc (suc (suc (suc (suc (suc (suc (suc (n - 8)))))))) ≡ n = omega arith in ap (λ m. number 0 (tops m 8)) e
 
-pub tops-some : (n : ℕ) → n ≤ 7 → 9259542123273814144 - 9259542123273814144 / 2 ^ (8 * n) ≡ number 0 (tops n 8)
+abbrev tops-right : ℕ → Bool
+tops-right n = eqb (top-bits - top-bits / 2 ^ (8 * n)) (number 0 (tops n 8))
+
+pub tops-some : (n : ℕ) → n ≤ 7 → top-bits - top-bits / 2 ^ (8 * n) ≡ number 0 (tops n 8)
 unfolding number tops
-tops-some zero h = refl
-tops-some (suc zero) h = refl
-tops-some (suc (suc zero)) h = refl
-tops-some (suc (suc (suc zero))) h = refl
-tops-some (suc (suc (suc (suc zero)))) h = refl
-tops-some (suc (suc (suc (suc (suc zero))))) h = refl
-tops-some (suc (suc (suc (suc (suc (suc zero)))))) h = refl
-tops-some (suc (suc (suc (suc (suc (suc (suc zero))))))) h = refl
-tops-some (suc (suc (suc (suc (suc (suc (suc (suc n)))))))) h = absurd (omega arith)
+tops-some n h = eqb-true _ _ (passed-below tops-right 8 refl n (omega arith))

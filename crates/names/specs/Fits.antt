@@ -38,6 +38,16 @@ tops n zero = []
 tops zero (suc room) = 0 ∷ tops zero room
 tops (suc n) (suc room) = 128 ∷ tops n room
 
+-- of eight bytes the lower seven bits each, and the top bits; and eight slashes
+abbrev pub low-bits : ℕ
+low-bits = 9187201950435737471
+
+abbrev pub top-bits : ℕ
+top-bits = 9259542123273814144
+
+abbrev pub slashes : ℕ
+slashes = 3399988123389603631
+
 -- by the lower bits and the top bit of every byte: the top bit of each byte of x that is not the byte of `other` at its place
 unfoldable pub differing : ℕ → ℕ → ℕ → ℕ → ℕ
 differing lows highs other x = bitAnd (bitOr (bitXor (bitAnd x lows) other + lows) x) highs

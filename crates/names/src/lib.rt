@@ -3,14 +3,18 @@ ghost use mathlib.Core.Path.{_≡_};
 ghost use mathlib.Core.List.{[], _∷_};
 ghost use Prim.Native.Nat.{_<_};
 ghost use Rattle.model.specs.Words.{bytes};
-ghost use Rattle.names.specs.Fits.{fits, good-name, number, tops, differing};
+ghost use Rattle.names.specs.Fits.{fits, good-name, number, tops, low-bits, top-bits, differing};
 use paths::LONGEST_NAME;
 use rows::Block;
+use rows::FIRST_BYTE_UNIT;
 
 // A dot alone, and two, as the first word of a block.
 const ONE_DOT: u32 = 0x012e0000;
 
 const TWO_DOTS: u32 = 0x022e2e00;
+
+// What one in the first of two words is worth where they are joined.
+const WORD_UNIT: u64 = 4294967296;
 
 // Of eight bytes the lower seven bits each, and the top bits; and eight slashes.
 const LOW_BITS: u64 = 0x7f7f7f7f7f7f7f7f;
@@ -23,7 +27,7 @@ const SLASHES: u64 = 0x2f2f2f2f2f2f2f2f;
 pub fn is_good_name(name: Block) -> bool
     ensures { λ r. ⌜ r ≡ good-name name ⌝ }
 {
-    let length = (name.first / 16777216) as usize;
+    let length = (name.first / FIRST_BYTE_UNIT) as usize;
     if length == 0 {
         return false;
     }
@@ -62,7 +66,7 @@ fn words_fit(name: Block, count: usize) -> bool
 fn half_fits(first: u32, second: u32, count: usize) -> bool
     ensures { λ r. ⌜ r ≡ fits count (bytes (first ∷ second ∷ [])) ⌝ }
 {
-    let half = first as u64 * 4294967296 + second as u64;
+    let half = first as u64 * WORD_UNIT + second as u64;
     if differing(half, 0) != tops_of(count) {
         return false;
     }
@@ -72,7 +76,7 @@ fn half_fits(first: u32, second: u32, count: usize) -> bool
 // The top bit of each of the eight bytes that is not the byte of `other` at its place. No byte of `other` is above 127.
 fn differing(eight: u64, other: u64) -> u64
     requires { ⌜ other < 9223372036854775808 ⌝ }
-    ensures { λ r. ⌜ r ≡ differing 9187201950435737471 9259542123273814144 other eight ⌝ }
+    ensures { λ r. ⌜ r ≡ differing low-bits top-bits other eight ⌝ }
 {
     ((((eight & LOW_BITS) ^ other) + LOW_BITS) | eight) & TOP_BITS
 }

@@ -8,15 +8,15 @@ ghost use Rattle.model.specs.Lists.{all};
 ghost use Rattle.model.specs.Paths.{parts, names, name-byte, valid-name, valid-path, valid-target};
 ghost use Rattle.paths.specs.Split.{first-part, clean, dots, next};
 
-const SLASH: u8 = b'/';
+pub const SLASH: u8 = b'/';
 
 const DOT: u8 = b'.';
 
 pub const LONGEST_NAME: usize = 14;
 
-const LONGEST_PATH: usize = 255;
+pub const LONGEST_PATH: usize = 255;
 
-const LONGEST_TARGET: usize = 64;
+pub const LONGEST_TARGET: usize = 64;
 
 // Where the next name stands, or that none is left.
 pub enum Next {

@@ -1,3 +1,4 @@
 pub mod Copying
+pub mod Determined
 pub mod Lacking
 pub mod Planning

@@ -2,16 +2,17 @@
 use mathlib.Core.Path.{_≡_, refl, sym, ap, subst, _∙_}
 use mathlib.Core.Bool.{Bool, true, false, _||_}
 use mathlib.Core.List.{List, [], _∷_, _++_, map, map-append, append-nil}
-use mathlib.Core.Option.{none, some}
+use mathlib.Core.Option.{Option, none, some}
 use Prim.Native.Nat.{ℕ, _+_, _≤_, _<_}
 use native.Mathlib.Omega.{arith}
 use native.Mathlib.Numerals.{add-one}
 use borrow.Author.Tests.{le-ltb, eq-eqb, ne-eqb}
 use lib.Dec.{ltb}
-use lib.ListN.{length, getD, set, take, drop, replicate, length-set, length-map, drop-of-length-le, List·getD-map}
-use lib.Seq.{take-length, take-suc, take-suc-set, getD-take, length-take-le, set-out}
+use lib.ListN.{length, getD, set, take, drop, replicate, length-append, length-take, length-set, length-map, drop-of-length-le, List·getD-map}
+use lib.Seq.{take-all, take-suc, take-suc-set, getD-take, length-take-le, set-out}
 use Rattle.model.specs.Lists.{filled, any, count, first, put, put-all}
-use Rattle.model.specs.Tables.{Tables, Hold, free-hold, end-role, element-role, same-place}
+use Rattle.model.specs.Tables as model-tables
+use Rattle.model.specs.Tables.{Tables, Hold, hold-rows, free-hold, end-role, element-role, same-place, with-holds}
 use Rattle.model.specs.Sound.{same-hold}
 use Rattle.model.specs.Words.{pack-name, unpack-name, pack-hold, unpack-hold, bits, bytes, words, unpack}
 use Rattle.model.specs.Holds.{hold-by, end-wanted, wanted, lacking, no-room, add-holds}
@@ -22,7 +23,7 @@ use Rattle.laws.proofs.Members.{each-in, at-in}
 use Rattle.rows.specs.declared.HoldRow.{HoldRow}
 use Rattle.rows.specs.Blocks.{Named, name-of, place-of, same-block}
 use Rattle.rows.specs.Rows.{hold-of}
-use Rattle.rows.specs.Stands.{Stands, Becomes, with-holds}
+use Rattle.rows.specs.Stands.{Stands, Becomes}
 use Rattle.rows.proofs.Blocks.{same-blocks-same-names}
 use Rattle.rows.proofs.Parts.{holds-full}
 use Rattle.edits.proofs.Written.{good-hold}
@@ -31,7 +32,7 @@ use Rattle.goals.specs.declared.Stop.the-variants.{Entry}
 use Rattle.goals.specs.declared.Walk.{Walk}
 use Rattle.goals.specs.Goals.{goal-of, place-at, blank, Place-named, Walk-named}
 use Rattle.plans.specs.declared.Plan.{Plan}
-use Rattle.plans.specs.Plans.{Fine, Planned, blank-row, planned-row, planned-holds, Wished, Place-used, Stop-used, Walk-used, element-holds, Gathered, Plan-for}
+use Rattle.plans.specs.Plans.{Fine, blank-row, plan-room, Planned, planned-row, planned-holds, Wished, Place-used, Stop-used, Walk-used, wanted-row, element-holds, Plan-for}
 use Rattle.plans.proofs.Lacking.{any-append, had-already, had-not, lacking-append}
 use Rattle.holds.proofs.Towards.{Towards, begin, go-on, arrive}
 
@@ -70,7 +71,7 @@ fine-row p ok i e = subst Fine (sym e) (each-at (ok .fine) blank-fine i)
 
 module _ (p : Plan) (ok : Planned p) where
   rows-long : length (take (p .count) (p .rows)) ≡ p .count
-  rows-long = length-take-le (p .count) (p .rows) (omega (arith, ok .few, ok .nine))
+  rows-long = length-take-le (p .count) (p .rows) (omega (arith, ok .few, ok .room))
 
   pub planned-long : length (planned-holds p) ≡ p .count
   unfolding planned-holds
@@ -116,107 +117,104 @@ module _ (have : List Hold) (p : Plan) (ok : Planned p) (h : HoldRow) where
         (any-append (same-hold (hold-of h)) (planned-holds p) have
         ∙ ap (λ x. x || any (same-hold (hold-of h)) have) (sym f ∙ u))
 
-    pub planned-new : c ≡ false → p .count < 9 → Fine h → Wished have p h (record { count = p .count + 1; rows = set (p .rows) (p .count) h })
+    pub planned-new : c ≡ false → p .count < plan-room → Fine h → Wished have p h (record { count = p .count + 1; rows = set (p .rows) (p .count) h })
     unfolding planned-holds lacking
     planned-new u room fine =
         let none : any (same-hold (hold-of h)) (planned-holds p ++ have) ≡ false
         = any-append (same-hold (hold-of h)) (planned-holds p) have ∙ neither (sym f ∙ u) (sym e ∙ t) in
         let rows : take (p .count + 1) (set (p .rows) (p .count) h) ≡ take (p .count) (p .rows) ++ (h ∷ [])
-        = ap (λ n. take n (set (p .rows) (p .count) h)) (add-one (p .count)) ∙ take-suc-set (p .rows) (p .count) h (omega (arith, ok .nine)) in
+        = ap (λ n. take n (set (p .rows) (p .count) h)) (add-one (p .count)) ∙ take-suc-set (p .rows) (p .count) h (omega (arith, ok .room)) in
         record {
           is = ap (map hold-of) rows ∙ map-append hold-of (take (p .count) (p .rows)) (h ∷ [])
               ∙ ap (λ l. planned-holds p ++ l) (sym (had-not (planned-holds p ++ have) (hold-of h) [] none));
-          planned = record { few = omega arith; nine = length-set (p .rows) (p .count) h ∙ ok .nine; fine = each-set (p .count) (ok .fine) fine };
+          planned = record { few = omega arith; room = length-set (p .rows) (p .count) h ∙ ok .room; fine = each-set (p .count) (ok .fine) fine };
           more = omega arith;
         }
 
--- THE ELEMENTS, then the end
+-- A PLAN GROWS BY ONE HOLD
 
--- the row that is wanted at a place
-abbrev pub wanted-row : ℕ → ℕ → Place → HoldRow
-wanted-row p role q = record { directory = q .directory; process = p; name = q .name; role = role }
-
-pub wanted-is : (p role : ℕ) (q : Place) → hold-of (wanted-row p role q) ≡ hold-by p role (place-at q)
-unfolding hold-of hold-by place-at
-wanted-is p role q = refl
-
-pub wanted-fine : (p role : ℕ) (q : Place) → p < 65536 → role < 4 → Place-named q → Place-used q → Fine (wanted-row p role q)
-unfolding Place-named
-wanted-fine p role q a r n u = record { good = good-hold (wanted-row p role q) (u .some) (u .fits) a r n; name = n; role = r }
-
-module _ (have : List Hold) (p n : ℕ) (elements : List Place) where
-  pub gather-start : Gathered have p n elements 0 (record { count = 0; rows = replicate 9 blank-row })
+module _ (have : List Hold) where
+  pub plan-none : {none : HoldRow} → none ≡ blank-row → Plan-for have [] (record { count = 0; rows = replicate plan-room none })
   unfolding planned-holds lacking
-  gather-start =
+  plan-none {none} e =
       record {
         is = refl;
-        planned = record { few = omega arith; nine = refl; fine = each-replicate 9 blank-row blank-fine };
+        planned = record { few = omega arith; room = refl; fine = each-replicate plan-room none (subst Fine (sym e) blank-fine) };
         few = omega arith;
       }
 
-  elements-long : n ≤ length elements → length (element-holds p n elements) ≡ n
-  unfolding element-holds
-  elements-long h =
-      length-map (map place-at (take n elements)) (hold-by p element-role) ∙ length-map (take n elements) place-at ∙ length-take-le n elements h
+  pub plan-on : (wants : List Hold) {p q : Plan} {h : HoldRow} → Plan-for have wants p → Wished have p h q → Plan-for have (wants ++ (hold-of h ∷ [])) q
+  plan-on wants {h = h} a b =
+      record {
+        is = b .is ∙ ap (λ m. m ++ lacking (m ++ have) (hold-of h ∷ [])) (a .is) ∙ sym (lacking-append have wants (hold-of h ∷ []));
+        planned = b .planned;
+        few = omega (arith, b .more, a .few, length-append wants (hold-of h ∷ []));
+      }
 
-  element-at : (i : ℕ) → i < n → getD (element-holds p n elements) i (hold-by p element-role (place-at blank)) ≡ hold-by p element-role (place-at (getD elements i blank))
+-- THE ELEMENTS, then the end
+
+module _ (p role : ℕ) (q : Place) {h : HoldRow} (e : h ≡ wanted-row p role q) where
+  wanted-is : hold-of h ≡ hold-by p role (place-at q)
+  unfolding hold-of hold-by place-at
+  wanted-is = ap hold-of e
+
+  pub wanted-fine : p < 65536 → role < 4 → Place-named q → Place-used q → Fine h
+  unfolding Place-named
+  wanted-fine a r n u = subst Fine (sym e) (record { good = good-hold (wanted-row p role q) (u .some) (u .fits) a r n; name = n; role = r })
+
+pub taken-few : {A : Type 0} (n : ℕ) (l : List A) → length (take n l) ≤ n
+taken-few n l = simp length-take (omega arith)
+
+pub elements-few : (p n : ℕ) (elements : List Place) → length (element-holds p n elements) ≤ n
+unfolding element-holds
+elements-few p n elements =
+    omega (arith, length-map (map place-at (take n elements)) (hold-by p element-role), length-map (take n elements) place-at, taken-few n elements)
+
+module _ (p n : ℕ) (elements : List Place) (l : n ≤ length elements) where
+  elements-long : length (element-holds p n elements) ≡ n
+  unfolding element-holds
+  elements-long =
+      length-map (map place-at (take n elements)) (hold-by p element-role) ∙ length-map (take n elements) place-at ∙ length-take-le n elements l
+
+  element-at : (i : ℕ) → i < n
+      → getD (element-holds p n elements) i (hold-by p element-role (place-at blank)) ≡ hold-by p element-role (place-at (getD elements i blank))
   unfolding element-holds
   element-at i h =
       List·getD-map (hold-by p element-role) (map place-at (take n elements)) i (place-at blank)
       ∙ ap (hold-by p element-role) (List·getD-map place-at (take n elements) i blank ∙ ap place-at (getD-take n elements i blank h))
 
-  pub gather-step : (i : ℕ) {q r : Plan} → i < n → n ≤ length elements → Gathered have p n elements i q
-      → Wished have q (wanted-row p element-role (getD elements i blank)) r → Gathered have p n elements (i + 1) r
-  gather-step i {q} {r} h l a b =
-      let x : hold-of (wanted-row p element-role (getD elements i blank)) ≡ getD (element-holds p n elements) i (hold-by p element-role (place-at blank))
-      = wanted-is p element-role (getD elements i blank) ∙ sym (element-at i h) in
-      let s : take (i + 1) (element-holds p n elements) ≡ take i (element-holds p n elements) ++ (hold-of (wanted-row p element-role (getD elements i blank)) ∷ [])
-      = ap (λ k. take k (element-holds p n elements)) (add-one i)
-      ∙ take-suc (element-holds p n elements) i (hold-by p element-role (place-at blank)) (omega (arith, elements-long l))
-      ∙ ap (λ y. take i (element-holds p n elements) ++ (y ∷ [])) (sym x) in
-      record {
-        is = b .is
-            ∙ ap (λ m. m ++ lacking (m ++ have) (hold-of (wanted-row p element-role (getD elements i blank)) ∷ [])) (a .is)
-            ∙ sym (lacking-append have (take i (element-holds p n elements)) (hold-of (wanted-row p element-role (getD elements i blank)) ∷ []))
-            ∙ ap (lacking have) (sym s);
-        planned = b .planned;
-        few = omega (arith, b .more, a .few);
-      }
+  pub gather-step : (have : List Hold) (i : ℕ) {q r : Plan} {h : HoldRow} → i < n → Plan-for have (take i (element-holds p n elements)) q
+      → h ≡ wanted-row p element-role (getD elements i blank) → Wished have q h r → Plan-for have (take (i + 1) (element-holds p n elements)) r
+  gather-step have i {r = r} {h = h} below a e b =
+      let wants = element-holds p n elements in
+      let s : take (i + 1) wants ≡ take i wants ++ (hold-of h ∷ [])
+      = ap (λ k. take k wants) (add-one i)
+      ∙ take-suc wants i (hold-by p element-role (place-at blank)) (omega (arith, elements-long))
+      ∙ ap (λ y. take i wants ++ (y ∷ [])) (element-at i below ∙ sym (wanted-is p element-role (getD elements i blank) e)) in
+      subst (λ l. Plan-for have l r) (sym s) (plan-on have (take i wants) a b)
 
-  pub gather-end : (i : ℕ) {q : Plan} → i ≤ n → n ≤ i → Gathered have p n elements i q → Gathered have p n elements n q
-  gather-end i {q} a b g = let e : i ≡ n = omega arith in subst (λ (k : ℕ). Gathered have p n elements k q) e g
+  pub gather-end : (have : List Hold) (i : ℕ) {q : Plan} → n ≤ i → Plan-for have (take i (element-holds p n elements)) q
+      → Plan-for have (element-holds p n elements) q
+  gather-end have i {q} b g = subst (λ l. Plan-for have l q) (take-all i (element-holds p n elements) (omega (arith, elements-long))) g
 
-module _ (have : List Hold) (p : ℕ) (w : Walk) (u : Walk-used w) (few : w .count ≤ 8) {q : Plan} (g : Gathered have p (w .count) (w .elements) (w .count) q) where
-  gathered : planned-holds q ≡ lacking have (element-holds p (w .count) (w .elements))
-  gathered =
-      let l : length (element-holds p (w .count) (w .elements)) ≡ w .count = elements-long have p (w .count) (w .elements) (omega (arith, u .room)) in
-      g .is ∙ ap (lacking have) (ap (λ k. take k (element-holds p (w .count) (w .elements))) (sym l) ∙ take-length (element-holds p (w .count) (w .elements)))
-
-  wanted-parts : wanted p (goal-of w) ≡ element-holds p (w .count) (w .elements) ++ end-wanted p (goal-of w .end)
+module _ (have : List Hold) (p : ℕ) (w : Walk) {q : Plan} (g : Plan-for have (element-holds p (w .count) (w .elements)) q) where
+  with-the-end : (o : Option model-tables.Place) → goal-of w .end ≡ o → element-holds p (w .count) (w .elements) ++ end-wanted p o ≡ wanted p (goal-of w)
   unfolding wanted element-holds goal-of
-  wanted-parts = refl
+  with-the-end o e = ap (λ x. element-holds p (w .count) (w .elements) ++ end-wanted p x) (sym e)
 
-  pub plan-without-end : goal-of w .end ≡ none → Plan-for have p w q
+  pub plan-without-end : goal-of w .end ≡ none → Plan-for have (wanted p (goal-of w)) q
   unfolding end-wanted
   plan-without-end e =
-      record {
-        is = gathered
-            ∙ ap (lacking have)
-            (sym (wanted-parts ∙ ap (λ o. element-holds p (w .count) (w .elements) ++ end-wanted p o) e ∙ append-nil (element-holds p (w .count) (w .elements))));
-        planned = g .planned;
-      }
+      subst (λ l. Plan-for have l q) (sym (append-nil (element-holds p (w .count) (w .elements))) ∙ with-the-end none e) g
 
-  pub plan-with-end : {s : Place} {r : Plan} → goal-of w .end ≡ some (place-at s) → Wished have q (wanted-row p end-role s) r → Plan-for have p w r
+  pub plan-with-end : {s : Place} {h : HoldRow} {r : Plan} → goal-of w .end ≡ some (place-at s) → h ≡ wanted-row p end-role s → Wished have q h r
+      → Plan-for have (wanted p (goal-of w)) r
   unfolding end-wanted
-  plan-with-end {s} {r} e b =
-      record {
-        is = b .is
-            ∙ ap (λ m. m ++ lacking (m ++ have) (hold-of (wanted-row p end-role s) ∷ [])) gathered
-            ∙ sym (lacking-append have (element-holds p (w .count) (w .elements)) (hold-of (wanted-row p end-role s) ∷ []))
-            ∙ ap (λ x. lacking have (element-holds p (w .count) (w .elements) ++ (x ∷ []))) (wanted-is p end-role s)
-            ∙ ap (lacking have) (sym (wanted-parts ∙ ap (λ o. element-holds p (w .count) (w .elements) ++ end-wanted p o) e));
-        planned = b .planned;
-      }
+  plan-with-end {s} {h} {r} e x b =
+      let elements = element-holds p (w .count) (w .elements) in
+      subst (λ l. Plan-for have l r)
+      (ap (λ y. elements ++ (y ∷ [])) (wanted-is p end-role s x) ∙ with-the-end (some (place-at s)) e)
+      (plan-on have elements g b)
 
 -- WHAT IS KNOWN OF THE PLACES
 
@@ -244,7 +242,7 @@ module _ (w : List ℕ) (s : Stands w) (h : HoldRow) {k : ℕ} (e : k ≡ first 
         tables = b .tables ∙ ap (with-holds (unpack w)) (ap (λ n. set (unpack w .holds) n (hold-of h)) e ∙ sym (put-first free-hold (hold-of h) (unpack w .holds)));
       }
 
-  pub no-row-free : 256 ≤ k → Becomes w (with-holds (unpack w) (put free-hold (hold-of h) (unpack w .holds)))
+  pub no-row-free : hold-rows ≤ k → Becomes w (with-holds (unpack w) (put free-hold (hold-of h) (unpack w .holds)))
   no-row-free l =
       let m : length (unpack w .holds) ≤ first free-hold 0 (unpack w .holds) = omega (arith, holds-full w) in
       record {
@@ -255,8 +253,12 @@ module _ (w : List ℕ) (s : Stands w) (h : HoldRow) {k : ℕ} (e : k ≡ first 
 abbrev pub adding : Plan → ℕ → Tables → Tables
 adding p i t = with-holds t (put-all free-hold (drop i (planned-holds p)) (t .holds))
 
+-- the rows left to add from row i on give what all of them give
+abbrev pub Left-to-add : Plan → List ℕ → ℕ → List ℕ → Type 0
+Left-to-add p w i v = Towards (adding p) (with-holds (unpack w) (add-holds (planned-holds p) (unpack w .holds))) i v
+
 module _ (p : Plan) (ok : Planned p) where
-  pub add-begin : {w : List ℕ} → Stands w → Towards (adding p) (with-holds (unpack w) (add-holds (planned-holds p) (unpack w .holds))) 0 w
+  pub add-begin : {w : List ℕ} → Stands w → Left-to-add p w 0 w
   unfolding add-holds
   add-begin s = begin (adding p) s refl
 

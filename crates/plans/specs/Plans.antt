@@ -6,7 +6,7 @@ use Prim.Native.Nat.{ℕ, _+_, _≤_, _<_}
 use lib.ListN.{length, getD, take}
 use Rattle.model.specs.Lists.{put}
 use Rattle.model.specs.Tables.{Hold, element-role, no-hold, free-hold}
-use Rattle.model.specs.Holds.{of-process, hold-by, wanted, lacking, copy-for}
+use Rattle.model.specs.Holds.{of-process, hold-by, lacking, copy-for}
 use Rattle.laws.specs.Each.{Each}
 use Rattle.rows.specs.declared.HoldRow.{HoldRow}
 use Rattle.rows.specs.Blocks.{Named}
@@ -15,7 +15,7 @@ use Rattle.goals.specs.declared.Place.{Place}
 use Rattle.goals.specs.declared.Stop.{Stop}
 use Rattle.goals.specs.declared.Stop.the-variants.{Refused, Root, Entry}
 use Rattle.goals.specs.declared.Walk.{Walk}
-use Rattle.goals.specs.Goals.{goal-of, place-at}
+use Rattle.goals.specs.Goals.{place-at}
 use Rattle.plans.specs.declared.Plan.{Plan}
 
 -- A row that may be compared and written
@@ -27,9 +27,13 @@ pub record Fine (h : HoldRow) : Type 0 where
 abbrev pub blank-row : HoldRow
 blank-row = record { directory = 0; process = 0; name = record { first = 0; second = 0; third = 0; fourth = 0 }; role = 0 }
 
+-- how many holds one call can lack: those on eight elements and on the end
+abbrev pub plan-room : ℕ
+plan-room = 9
+
 pub record Planned (p : Plan) : Type 0 where
-  pub few : p .count ≤ 9
-  pub nine : length (p .rows) ≡ 9
+  pub few : p .count ≤ plan-room
+  pub room : length (p .rows) ≡ plan-room
   pub fine : Each Fine (p .rows)
 
 abbrev pub planned-row : Plan → ℕ → HoldRow
@@ -60,20 +64,19 @@ pub record Walk-used (w : Walk) : Type 0 where
   pub room : length (w .elements) ≡ 8
   pub elements : Each Place-used (take (w .count) (w .elements))
 
+-- the row that is wanted at a place
+abbrev pub wanted-row : ℕ → ℕ → Place → HoldRow
+wanted-row p role q = record { directory = q .directory; process = p; name = q .name; role = role }
+
 -- the holds wanted on the first n of these places
 unfoldable pub element-holds : ℕ → ℕ → List Place → List Hold
 element-holds p n elements = map (hold-by p element-role) (map place-at (take n elements))
 
--- the plan for the first i elements
-pub record Gathered (have : List Hold) (p n : ℕ) (elements : List Place) (i : ℕ) (q : Plan) : Type 0 where
-  pub is : planned-holds q ≡ lacking have (take i (element-holds p n elements))
+-- the plan for these holds: what is lacking of them
+pub record Plan-for (have wants : List Hold) (q : Plan) : Type 0 where
+  pub is : planned-holds q ≡ lacking have wants
   pub planned : Planned q
-  pub few : q .count ≤ i
-
--- the whole plan: what the model takes
-pub record Plan-for (have : List Hold) (p : ℕ) (w : Walk) (q : Plan) : Type 0 where
-  pub is : planned-holds q ≡ lacking have (wanted p (goal-of w))
-  pub planned : Planned q
+  pub few : q .count ≤ length wants
 
 -- fork: the hold of a row copied for the child, where it is the parent's
 unfoldable pub copied-at : ℕ → ℕ → ℕ → List Hold → List Hold

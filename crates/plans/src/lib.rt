@@ -3,16 +3,17 @@ ghost use mathlib.Core.Logic.{_≢_};
 ghost use mathlib.Core.Path.{_≡_};
 ghost use Prim.Native.Nat.{_≤_, _<_};
 ghost use Rattle.model.specs.Lists.{any, count, put};
-ghost use Rattle.model.specs.Tables.{free-hold};
+ghost use Rattle.model.specs.Tables.{hold-rows, free-hold, with-holds};
 ghost use Rattle.model.specs.Sound.{same-hold};
-ghost use Rattle.model.specs.Holds.{of-process, no-room, add-holds, copies};
+ghost use Rattle.model.specs.Holds.{of-process, wanted, no-room, add-holds, copies};
 ghost use Rattle.model.specs.Words.{unpack};
 ghost use Rattle.rows.specs.Blocks.{Named};
 ghost use Rattle.rows.specs.Rows.{hold-of};
-ghost use Rattle.rows.specs.Stands.{Stands, Becomes, with-holds};
-ghost use Rattle.goals.specs.Goals.{Walk-named};
-ghost use Rattle.plans.specs.Plans.{Fine, Planned, planned-holds, Wished, Walk-used, Plan-for, Gathered, planned-row, copied-at};
+ghost use Rattle.rows.specs.Stands.{Stands, Becomes};
+ghost use Rattle.goals.specs.Goals.{goal-of, Walk-named};
+ghost use Rattle.plans.specs.Plans.{Fine, plan-room, Planned, planned-row, planned-holds, wanted-row, element-holds, Wished, Walk-used, Plan-for, copied-at};
 use edits::set_hold;
+use goals::Place;
 use goals::Stop;
 use goals::Walk;
 use rows::Block;
@@ -29,10 +30,26 @@ use search::free_hold_row;
 use search::free_hold_rows;
 use search::has_hold;
 
+// How many holds one call can lack: those on eight elements and on the end.
+pub const PLAN_ROOM: usize = 9;
+
 // Holds to be taken, in their order. Unused room is blank.
 pub struct Plan {
     pub count: usize,
-    pub rows: [HoldRow; 9],
+    pub rows: [HoldRow; PLAN_ROOM],
+}
+
+// Every row of a hold is built here.
+fn hold_row(place: Place, process: u16, role: u8) -> HoldRow
+    ensures { λ r. ⌜ r ≡ wanted-row process role place ⌝ }
+{
+    let name = place.name;
+    HoldRow {
+        directory: place.directory,
+        process,
+        name,
+        role,
+    }
 }
 
 fn same_holds(a: HoldRow, b: HoldRow) -> bool
@@ -76,7 +93,7 @@ fn is_planned(plan: Plan, hold: HoldRow) -> bool
 
 // The plan with one hold more, where it is lacking.
 fn wish(words: &[u32], plan: Plan, hold: HoldRow) -> Plan
-    requires { ⌜ (Stands (now words)) × ((Planned plan) × ((plan .count < 9) × (Fine hold))) ⌝ }
+    requires { ⌜ (Stands (now words)) × ((Planned plan) × ((plan .count < plan-room) × (Fine hold))) ⌝ }
     ensures { λ r. ⌜ Wished (unpack (now (words .entry)) .holds) plan hold r ⌝ }
 {
     if has_hold(words, hold) {
@@ -96,39 +113,26 @@ fn wish(words: &[u32], plan: Plan, hold: HoldRow) -> Plan
 
 fn plan_elements(words: &[u32], process: u16, walk: Walk) -> Plan
     requires { ⌜ (Stands (now words)) × ((Walk-named walk) × (Walk-used walk)) ⌝ }
-    ensures { λ r. ⌜ Gathered (unpack (now (words .entry)) .holds) process (walk .count) (walk .elements) (walk .count) r ⌝ }
+    ensures { λ r. ⌜ Plan-for (unpack (now (words .entry)) .holds) (element-holds process (walk .count) (walk .elements)) r ⌝ }
 {
-    let none = HoldRow {
+    let nowhere = Place {
         directory: 0,
-        process: 0,
         name: Block {
             first: 0,
             second: 0,
             third: 0,
             fourth: 0,
         },
-        role: 0,
     };
     let mut plan = Plan {
         count: 0,
-        rows: [none; 9],
+        rows: [hold_row(nowhere, 0, 0); PLAN_ROOM],
     };
     let elements = walk.elements;
     let count = walk.count;
     let mut i = 0;
     while i < count {
-        let place = elements[i];
-        let name = place.name;
-        plan = wish(
-            words,
-            plan,
-            HoldRow {
-                directory: place.directory,
-                process,
-                name,
-                role: ELEMENT,
-            },
-        );
+        plan = wish(words, plan, hold_row(elements[i], process, ELEMENT));
         i += 1;
     }
     plan
@@ -137,26 +141,14 @@ fn plan_elements(words: &[u32], process: u16, walk: Walk) -> Plan
 // The holds that the process lacks at the end of a walk.
 pub fn plan_holds(words: &[u32], process: u16, walk: Walk) -> Plan
     requires { ⌜ (Stands (now words)) × ((Walk-named walk) × (Walk-used walk)) ⌝ }
-    ensures { λ r. ⌜ Plan-for (unpack (now (words .entry)) .holds) process walk r ⌝ }
+    ensures { λ r. ⌜ Plan-for (unpack (now (words .entry)) .holds) (wanted process (goal-of walk)) r ⌝ }
 {
     let plan = plan_elements(words, process, walk);
     let stop = walk.stop;
     match stop {
         Stop::Refused(_) => plan,
         Stop::Root => plan,
-        Stop::Entry { place, node: _ } => {
-            let name = place.name;
-            wish(
-                words,
-                plan,
-                HoldRow {
-                    directory: place.directory,
-                    process,
-                    name,
-                    role: END,
-                },
-            )
-        }
+        Stop::Entry { place, node: _ } => wish(words, plan, hold_row(place, process, END)),
     }
 }
 
@@ -211,22 +203,15 @@ pub fn count_of_process(words: &[u32], process: u16) -> usize
 }
 
 fn copy_row(words: &mut [u32], row: usize, parent: u16, child: u16)
-    requires { ⌜ (Stands (now words)) × ((row < 256) × (1 ≤ parent)) ⌝ }
+    requires { ⌜ (Stands (now words)) × ((row < hold-rows) × (1 ≤ parent)) ⌝ }
     ensures { λ _. ⌜ Becomes (now (words .exit)) (with-holds (unpack (now (words .entry))) (copied-at parent child row (unpack (now (words .entry)) .holds))) ⌝ }
 {
     if hold_process(words, row) == parent {
         let directory = hold_directory(words, row);
         let name = hold_name(words, row);
         let role = hold_role(words, row);
-        add_hold(
-            words,
-            HoldRow {
-                directory,
-                process: child,
-                name,
-                role,
-            },
-        );
+        let place = Place { directory, name };
+        add_hold(words, hold_row(place, child, role));
     }
 }
 

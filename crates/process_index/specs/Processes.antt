@@ -4,16 +4,25 @@ use mathlib.Core.Bool.{Bool, true, not}
 use mathlib.Core.List.{List}
 use Prim.Native.Nat.{ℕ, _%_}
 use Rattle.model.specs.Sound.{processes-distinct}
-use Rattle.model.specs.Tables.{free-process, is-process}
+use Rattle.model.specs.Tables.{Process, no-process, free-process, is-process, process-rows}
 use Rattle.model.specs.Words.{unpack}
 use Rattle.rows.specs.Stands.{Stands, process-row}
-use Rattle.index.specs.Buckets.{Chained}
+use Rattle.index.specs.Buckets.{Chains, Chained}
 
-abbrev pub process-used : List ℕ → ℕ → Bool
-process-used w k = not (free-process (process-row w k))
+-- how many chains there are
+abbrev pub process-buckets : ℕ
+process-buckets = 127
 
-abbrev pub process-bucket : List ℕ → ℕ → ℕ
-process-bucket w k = process-row w k .number % 127
+abbrev pub process-chains : List Process → Chains Process
+process-chains processes =
+    record {
+      every = processes;
+      none = no-process;
+      chosen = λ x. not (free-process x);
+      bucket = λ x. x .number % process-buckets;
+      size = process-buckets;
+      rows = process-rows;
+    }
 
 -- the process of row k has the number
 abbrev pub row-of : List ℕ → ℕ → ℕ → Bool
@@ -22,5 +31,5 @@ row-of w p k = is-process p (process-row w k)
 -- the whole index, with what makes a number's last row its only one
 pub record Processes-indexed (w heads next : List ℕ) : Type 0 where
   pub stands : Stands w
-  pub chained : Chained (process-used w) (process-bucket w) 127 64 heads next 64
+  pub chained : Chained (process-chains (unpack w .processes)) heads next process-rows
   pub distinct : processes-distinct (unpack w) ≡ true

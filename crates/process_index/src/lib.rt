@@ -2,15 +2,14 @@
 // write to the processes.
 ghost use mathlib.Core.Path.{_≡_};
 ghost use mathlib.Core.Bool.{true};
-ghost use Prim.Native.Nat.{_≤_, _<_, _%_};
+ghost use Prim.Native.Nat.{_<_, _%_};
 ghost use lib.ListN.{replicate};
 ghost use Rattle.model.specs.Sound.{processes-distinct};
-ghost use Rattle.model.specs.Tables.{listed, user-of};
+ghost use Rattle.model.specs.Tables.{process-rows, is-process, listed, user-of};
 ghost use Rattle.model.specs.Words.{unpack};
 ghost use Rattle.rows.specs.Stands.{Stands};
-ghost use Rattle.index.specs.Buckets.{last-below};
-ghost use Rattle.index.specs.Descent.{Descent};
-ghost use Rattle.process_index.specs.Processes.{process-used, process-bucket, row-of, Processes-indexed};
+ghost use Rattle.index.specs.Buckets.{last-below, Descent};
+ghost use Rattle.process_index.specs.Processes.{process-buckets, process-chains, row-of, Processes-indexed};
 use rows::PROCESS_ROWS;
 use rows::process_number;
 use rows::process_user;
@@ -25,7 +24,7 @@ pub fn index_processes(
     heads: &mut [u16; PROCESS_BUCKETS],
     next: &mut [u16; PROCESS_ROWS],
 ) -> bool
-    requires { ⌜ (Stands (now words)) × ((now heads ≡ replicate 127 0) × (now next ≡ replicate 64 0)) ⌝ }
+    requires { ⌜ (Stands (now words)) × ((now heads ≡ replicate process-buckets 0) × (now next ≡ replicate process-rows 0)) ⌝ }
     ensures { λ r. ⌜ (r ≡ processes-distinct (unpack (now (words .entry)))) × (r ≡ true → Processes-indexed (now (words .entry)) (now (heads .exit)) (now (next .exit))) ⌝ }
 {
     let mut row = 0;
@@ -85,14 +84,14 @@ fn find_in_index(
     process: u16,
 ) -> usize
     requires { ⌜ (Processes-indexed (now words) (now heads) (now next)) × (process ≡ 0 → ⊥) ⌝ }
-    ensures { λ r. ⌜ r ≡ last-below (row-of (now (words .entry)) process) 64 ⌝ }
+    ensures { λ r. ⌜ r ≡ last-below (row-of (now (words .entry)) process) process-rows ⌝ }
 {
     let bucket = bucket_of(process);
     last_of(words, next, heads[bucket], process, PROCESS_ROWS)
 }
 
 fn bucket_of(process: u16) -> usize
-    ensures { λ r. ⌜ (r ≡ process % 127) × (r < 127) ⌝ }
+    ensures { λ r. ⌜ (r ≡ process % process-buckets) × (r < process-buckets) ⌝ }
 {
     process as usize % PROCESS_BUCKETS
 }
@@ -105,7 +104,7 @@ fn last_of(
     process: u16,
     limit: usize,
 ) -> usize
-    requires { ⌜ (Stands (now words)) × ((limit ≤ 64) × (Descent (process-used (now words)) (process-bucket (now words)) (row-of (now words) process) (now next) from (process % 127) limit)) ⌝ }
+    requires { ⌜ (Stands (now words)) × (Descent (process-chains (unpack (now words) .processes)) (is-process process) (now next) from (process % process-buckets) limit) ⌝ }
     ensures { λ r. ⌜ r ≡ last-below (row-of (now (words .entry)) process) limit ⌝ }
 {
     let mut found = wide(from);

@@ -8,18 +8,18 @@ use lib.Dec.{eqb}
 use lib.ListN.{length, set}
 use lib.Seq.{set-out}
 use Rattle.model.specs.Lists.{first}
-use Rattle.model.specs.Tables.{Tables, no-process, free-process, is-process}
+use Rattle.model.specs.Tables.{Tables, no-process, free-process, is-process, with-processes, process-rows}
 use Rattle.model.specs.Words.{unpack}
 use Rattle.model.specs.Calls.{no-free-process, add-process, drop-process}
 use Rattle.laws.specs.Clears.{clear-at}
 use Rattle.laws.proofs.Clears.{clears, leaves, clear-step}
 use Rattle.laws.proofs.Loops.{clear-from, clear-start, clear-done, put-first, none-free}
-use Rattle.rows.specs.Stands.{Stands, Becomes, with-processes, process-row}
+use Rattle.rows.specs.Stands.{Stands, Becomes, process-row}
 use Rattle.rows.proofs.Parts.{processes-full}
 use Rattle.holds.proofs.Towards.{Towards, begin, go-on, arrive}
 
 module _ (w : List ℕ) where
-  pub no-process-row : {k : ℕ} → k ≡ first free-process 0 (unpack w .processes) → eqb k 64 ≡ no-free-process (unpack w)
+  pub no-process-row : {k : ℕ} → k ≡ first free-process 0 (unpack w .processes) → eqb k process-rows ≡ no-free-process (unpack w)
   unfolding no-free-process
   no-process-row e = none-free free-process (unpack w .processes) e (processes-full w)
 
@@ -36,7 +36,7 @@ module _ (w : List ℕ) where
               ∙ sym (put-first free-process (record { number = p; user = user }) (unpack w .processes)));
         }
 
-    pub process-not-added : Stands w → 64 ≤ k → Becomes w (with-processes (unpack w) (add-process p user (unpack w .processes)))
+    pub process-not-added : Stands w → process-rows ≤ k → Becomes w (with-processes (unpack w) (add-process p user (unpack w .processes)))
     unfolding add-process
     process-not-added s h =
         let m : length (unpack w .processes) ≤ first free-process 0 (unpack w .processes) = omega (arith, processes-full w) in
@@ -73,13 +73,13 @@ module _ (p : ℕ) where
   unfolding drop-process
   process-begin {w} s = begin (dropping-process p) s (ap (with-processes (unpack w)) (clear-start (is-process p) no-process (unpack w .processes)))
 
-  pub process-on : (i : ℕ) {t : Tables} {v u : List ℕ} → i < 64 → Towards (dropping-process p) t i v
+  pub process-on : (i : ℕ) {t : Tables} {v u : List ℕ} → i < process-rows → Towards (dropping-process p) t i v
       → Becomes u (with-processes (unpack v) (clear-at (is-process p) no-process i (unpack v .processes))) → Towards (dropping-process p) t (i + 1) u
   process-on i {v = v} h a b =
       go-on (dropping-process p) i a b
       (ap (with-processes (unpack v)) (clear-step (is-process p) no-process i (unpack v .processes) (omega (arith, processes-full v))))
 
-  pub process-end : (i : ℕ) {t : Tables} {v : List ℕ} → 64 ≤ i → Towards (dropping-process p) t i v → Becomes v t
+  pub process-end : (i : ℕ) {t : Tables} {v : List ℕ} → process-rows ≤ i → Towards (dropping-process p) t i v → Becomes v t
   process-end i {v = v} h a =
       arrive (dropping-process p) i a
       (ap (with-processes (unpack v)) (clear-done (is-process p) no-process i (unpack v .processes) (omega (arith, processes-full v))))

@@ -1,17 +1,23 @@
-// Processes listed and dropped, and the tests of their table.
+// Calls 1 to 4, a file each: the tests from the top down, and no word written before the last of them has passed. What they share stands here: processes listed and dropped, and
+// the tests of their table.
 ghost use mathlib.Core.Path.{_≡_};
 ghost use Prim.Native.Nat.{_≤_, _<_};
-ghost use Rattle.model.specs.Tables.{no-process, is-process};
+ghost use Rattle.model.specs.Tables.{process-rows, no-process, is-process, with-processes};
 ghost use Rattle.model.specs.Calls.{unlisted, no-free-process, add-process, drop-process};
 ghost use Rattle.model.specs.Words.{unpack};
 ghost use Rattle.laws.specs.Clears.{clear-at};
-ghost use Rattle.rows.specs.Stands.{Stands, Becomes, with-processes};
+ghost use Rattle.rows.specs.Stands.{Stands, Becomes};
 use edits::clear_process;
 use edits::set_process;
 use rows::PROCESS_ROWS;
 use rows::process_number;
 use search::free_process_row;
 use search::is_listed;
+
+pub mod enter;
+pub mod exec;
+pub mod exit;
+pub mod fork;
 
 pub fn is_unlisted(words: &[u32], process: u16) -> bool
     requires { ⌜ Stands (now words) ⌝ }
@@ -38,7 +44,7 @@ pub fn add_process(words: &mut [u32], process: u16, user: u16)
 }
 
 fn drop_if_process(words: &mut [u32], row: usize, process: u16)
-    requires { ⌜ (Stands (now words)) × (row < 64) ⌝ }
+    requires { ⌜ (Stands (now words)) × (row < process-rows) ⌝ }
     ensures { λ _. ⌜ Becomes (now (words .exit)) (with-processes (unpack (now (words .entry))) (clear-at (is-process process) no-process row (unpack (now (words .entry)) .processes))) ⌝ }
 {
     if process_number(words, row) == process {

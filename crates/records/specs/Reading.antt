@@ -1,6 +1,8 @@
 -- What `read` answers: the model's reading of the bytes, with where the paths stand in them; and what each answer means. Assumes nothing.
+use mathlib.Core.Bool.{Bool, false}
 use mathlib.Core.List.{List}
 use Prim.Native.Nat.{ℕ, _+_}
+use lib.Dec.{eqb}
 use lib.ListN.{length, take, drop}
 use Rattle.model.specs.Refusals.{Outcome, refused, granted}
 use Rattle.model.specs.Records as model
@@ -53,3 +55,8 @@ outcome-of s (Accepted f taken) =
 unfoldable pub taken-of : Reading → ℕ
 taken-of (Refused n taken) = taken
 taken-of (Accepted f taken) = taken
+
+-- Numbers given back: 17 is the one refusal that comes before the test of the tables
+unfoldable pub cut-short : Reading → Bool
+cut-short (Refused n taken) = eqb n 17
+cut-short (Accepted f taken) = false

@@ -6,7 +6,7 @@ ghost use lib.ListN.{length, drop};
 ghost use lib.Seq.{paste};
 ghost use Rattle.model.specs.Records.{write};
 ghost use Rattle.fields.specs.Given.{given, Writes};
-ghost use Rattle.records.specs.Reading.{fields-at, reading};
+ghost use Rattle.records.specs.Reading.{cut-short, fields-at, reading, taken-of};
 ghost use Rattle.records.specs.Packing.{called, Packs};
 use fields::Numbers;
 use heads::HEAD_LENGTH;
@@ -68,6 +68,27 @@ pub fn read(bytes: &[u8]) -> Reading
     }
     let fields = placed(numbers, length1, length2);
     Reading::Accepted { fields, taken }
+}
+
+pub fn taken_of(found: Reading) -> usize
+    ensures { λ r. ⌜ r ≡ taken-of found ⌝ }
+{
+    match found {
+        Reading::Accepted { fields: _, taken } => taken,
+        Reading::Refused { number: _, taken } => taken,
+    }
+}
+
+pub fn is_cut_short(found: Reading) -> bool
+    ensures { λ r. ⌜ r ≡ cut-short found ⌝ }
+{
+    match found {
+        Reading::Accepted {
+            fields: _,
+            taken: _,
+        } => false,
+        Reading::Refused { number, taken: _ } => number == SHORT_RECORD,
+    }
 }
 
 // The fields of a record, where path 1 stands behind the head and path 2 behind it.

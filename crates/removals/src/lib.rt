@@ -1,15 +1,18 @@
 // Calls 12 and 13: unlink and rmdir.
 ghost use Rattle.model.specs.Calls.{unlink, rmdir};
 ghost use Rattle.model.specs.Words.{unpack};
-ghost use Rattle.calls.specs.Meets.{Meets};
-ghost use Rattle.accepted.specs.Ready.{call-in, Ready, Walks};
-use accepted::reach;
-use goals::Stop;
+ghost use Rattle.rows.specs.Meets.{Meets};
+ghost use Rattle.reaching.specs.Ready.{call-in, Ready, Walks};
+
+pub mod at_end;
+
+use at_end::rmdir_at;
+use at_end::unlink_at;
 use index::BUCKETS;
 use model::Answer;
+use reaching::Way;
+use reaching::reach;
 use records::Fields;
-use removing::rmdir::rmdir_at;
-use removing::unlink::unlink_at;
 use rows::ENTRY_ROWS;
 
 pub fn unlink(
@@ -22,12 +25,13 @@ pub fn unlink(
     requires { ⌜ (Ready (now words) (now heads) (now next) (now bytes) fields) × (Walks fields) ⌝ }
     ensures { λ r. ⌜ Meets (now (words .entry)) (unlink (unpack (now (words .entry))) (call-in (now (bytes .entry)) fields)) r (now (words .exit)) ⌝ }
 {
-    let walk = reach(words, heads, next, bytes, fields, false);
-    let stop = walk.stop;
-    if let Stop::Refused(number) = stop {
-        return Answer::Refused(number);
+    let reached = reach(words, heads, next, bytes, fields, false);
+    let way = reached.way;
+    let walk = reached.walk;
+    match way {
+        Way::Refused(number) => Answer::Refused(number),
+        Way::Open(caller) => unlink_at(words, caller, walk),
     }
-    unlink_at(words, fields.process, walk)
 }
 
 pub fn rmdir(
@@ -40,10 +44,11 @@ pub fn rmdir(
     requires { ⌜ (Ready (now words) (now heads) (now next) (now bytes) fields) × (Walks fields) ⌝ }
     ensures { λ r. ⌜ Meets (now (words .entry)) (rmdir (unpack (now (words .entry))) (call-in (now (bytes .entry)) fields)) r (now (words .exit)) ⌝ }
 {
-    let walk = reach(words, heads, next, bytes, fields, false);
-    let stop = walk.stop;
-    if let Stop::Refused(number) = stop {
-        return Answer::Refused(number);
+    let reached = reach(words, heads, next, bytes, fields, false);
+    let way = reached.way;
+    let walk = reached.walk;
+    match way {
+        Way::Refused(number) => Answer::Refused(number),
+        Way::Open(caller) => rmdir_at(words, caller, walk),
     }
-    rmdir_at(words, fields.process, walk)
 }

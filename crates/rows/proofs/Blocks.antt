@@ -14,7 +14,7 @@ use Rattle.laws.proofs.Bools.{and-left, and-right}
 use Rattle.laws.proofs.Pieces.{same-self, same-equal}
 use Rattle.rows.specs.declared.Block.{Block}
 use Rattle.rows.specs.Blocks.{block-words, name-of, Named, block-of, same-block}
-use Rattle.invariants.proofs.Words.{name-wide}
+use Rattle.laws.proofs.Words.{name-wide}
 
 pub same-when : (p q : Bool) → (p ≡ true → q ≡ true) → (q ≡ true → p ≡ true) → p ≡ q
 same-when true q f g = sym (f refl)

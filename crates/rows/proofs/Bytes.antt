@@ -1,20 +1,22 @@
 -- Bytes to words and back, as the code does it: a name's block from its bytes, and 64 bytes from 16 words. Assumes nothing.
 use mathlib.Core.Path.{_≡_, refl, sym, ap, _∙_}
 use mathlib.Core.List.{List, [], _∷_, _++_}
-use Prim.Native.Nat.{ℕ, zero, suc, _+_, _*_, _/_, _%_, _≤_, _<_}
+use Prim.Native.Nat.{ℕ, zero, suc, _+_, _*_, _≤_, _<_}
 use native.Mathlib.Omega.{arith}
 use native.Mathlib.Numerals.{add-one, add-two, add-three}
 use lib.ListN.{length, getD, set, take, drop, replicate, length-replicate, drop-of-length-le}
 use lib.Seq.{sets, getD-take, drop-drop}
 use Rattle.model.specs.Lists.{filled}
-use Rattle.model.specs.Words.{bits, words, bytes, pack-name, pack-node}
+use Rattle.model.specs.Paths.{longest-name, longest-target}
+use Rattle.model.specs.Tables.{node-rows}
+use Rattle.model.specs.Words.{node-words, first-node-word, bits, words, bytes, pack-name}
 use Rattle.laws.proofs.Loops.{rest-at}
 use Rattle.laws.proofs.Pieces.{bytes-length, bytes-of-words, filled-bytes, filled-length, sets-whole}
 use Rattle.rows.specs.declared.Target.{Target}
-use Rattle.rows.specs.Blocks.{block-of, word-from}
+use Rattle.rows.specs.Blocks.{target-words, block-of, word-from}
 use Rattle.rows.specs.Stands.{Stands, node-row}
 use Rattle.rows.proofs.Parts.{read-node}
-use Rattle.rows.proofs.Fields.{node-row-fits, node-words}
+use Rattle.rows.proofs.Fields.{node-row-fits, node-packed}
 
 -- A NAME'S BLOCK
 
@@ -74,29 +76,32 @@ pub block-made : (n : List ℕ) {f s t u : ℕ}
     → record { first = f; second = s; third = t; fourth = u } ≡ block-of n
 unfolding block-of pack-name word-from
 block-made n {f} {s} {t} {u} a b c d =
-    let l = filled-length 15 n in
-    let whole = length n ∷ filled 15 n in
-    let e : f ≡ getD (words (length n ∷ filled 15 n)) 0 0 = a ∙ sym (word-at 0 (length n ∷ filled 15 n) (omega arith) ∙ first) in
-    let g : s ≡ getD (words (length n ∷ filled 15 n)) 1 0 = b ∙ sym (word-at 1 (length n ∷ filled 15 n) (omega arith) ∙ word-behind (length n) (filled 15 n) 3 ∙ word-filled 15 n 3 (omega arith)) in
-    let h : t ≡ getD (words (length n ∷ filled 15 n)) 2 0 = c ∙ sym (word-at 2 (length n ∷ filled 15 n) (omega arith) ∙ word-behind (length n) (filled 15 n) 7 ∙ word-filled 15 n 7 (omega arith)) in
-    let k : u ≡ getD (words (length n ∷ filled 15 n)) 3 0 = d ∙ sym (word-at 3 (length n ∷ filled 15 n) (omega arith) ∙ word-behind (length n) (filled 15 n) 11 ∙ word-filled 15 n 11 (omega arith)) in
+    let l = filled-length (longest-name + 1) n in
+    let whole = length n ∷ filled (longest-name + 1) n in
+    let e : f ≡ getD (words whole) 0 0 = a ∙ sym (word-at 0 whole (omega arith) ∙ first) in
+    let g : s ≡ getD (words whole) 1 0 = b ∙ sym (word-at 1 whole (omega arith) ∙ later 3 (omega arith)) in
+    let h : t ≡ getD (words whole) 2 0 = c ∙ sym (word-at 2 whole (omega arith) ∙ later 7 (omega arith)) in
+    let k : u ≡ getD (words whole) 3 0 = d ∙ sym (word-at 3 whole (omega arith) ∙ later 11 (omega arith)) in
     λ i. record { first = e i; second = g i; third = h i; fourth = k i }
   where
-    first : word-from (length n ∷ filled 15 n) 0 ≡ ((length n * 256 + getD n 0 0) * 256 + getD n 1 0) * 256 + getD n 2 0
-    first = rw (filled-at 15 n 0 (omega arith), filled-at 15 n 1 (omega arith), filled-at 15 n 2 (omega arith))
+    first : word-from (length n ∷ filled (longest-name + 1) n) 0 ≡ ((length n * 256 + getD n 0 0) * 256 + getD n 1 0) * 256 + getD n 2 0
+    first = rw (filled-at (longest-name + 1) n 0 (omega arith), filled-at (longest-name + 1) n 1 (omega arith), filled-at (longest-name + 1) n 2 (omega arith))
+
+    later : (k : ℕ) → k + 3 < longest-name + 1 → word-from (length n ∷ filled (longest-name + 1) n) (suc k) ≡ word-from n k
+    later k h = word-behind (length n) (filled (longest-name + 1) n) k ∙ word-filled (longest-name + 1) n k h
 
 -- a target's words
-pub target-word : (t : List ℕ) (k : ℕ) → k < 16 → word-from t (k * 4) ≡ getD (words (filled 64 t)) k 0
+pub target-word : (t : List ℕ) (k : ℕ) → k < target-words → word-from t (k * 4) ≡ getD (words (filled longest-target t)) k 0
 target-word t k h =
-    sym (word-at k (filled 64 t) (omega (arith, filled-length 64 t)) ∙ word-filled 64 t (k * 4) (omega arith))
+    sym (word-at k (filled longest-target t) (omega (arith, filled-length longest-target t)) ∙ word-filled longest-target t (k * 4) (omega arith))
 
 -- 64 BYTES FROM 16 WORDS: what is left to store gives the whole
 
-pub bytes-start : (ws : List ℕ) → length ws ≡ 16 → sets (replicate 64 0) (0 * 4) (bytes (drop 0 ws)) ≡ bytes ws
-bytes-start ws h = sets-whole (replicate 64 0) (bytes ws) (omega (arith, bytes-length ws, length-replicate {A = ℕ} 64 0))
+pub bytes-start : (ws : List ℕ) → length ws ≡ target-words → sets (replicate longest-target 0) (0 * 4) (bytes (drop 0 ws)) ≡ bytes ws
+bytes-start ws h = sets-whole (replicate longest-target 0) (bytes ws) (omega (arith, bytes-length ws, length-replicate {A = ℕ} longest-target 0))
 
 pub bytes-step : (ws out v : List ℕ) (k : ℕ) {x a b c d : ℕ} → k < length ws → x ≡ getD ws k 0
-    → a ≡ x / 16777216 % 256 → b ≡ x / 65536 % 256 → c ≡ x / 256 % 256 → d ≡ x / 1 % 256
+    → a ≡ bits 24 8 x → b ≡ bits 16 8 x → c ≡ bits 8 8 x → d ≡ bits 0 8 x
     → sets out (k * 4) (bytes (drop k ws)) ≡ v
     → sets (set (set (set (set out (k * 4) a) (k * 4 + 1) b) (k * 4 + 2) c) (k * 4 + 3) d) ((k + 1) * 4) (bytes (drop (k + 1) ws)) ≡ v
 unfolding bytes bits
@@ -110,19 +115,20 @@ bytes-end ws out v k h inv = rw (drop-of-length-le ws h) at inv
 
 -- A TARGET: the 64 bytes behind a node's first word
 
-pub target-bytes-are : {w : List ℕ} (s : Stands w) (row : ℕ) → row < 256 → bytes (take 16 (drop (2560 + row * 17 + 1) w)) ≡ filled 64 (node-row w row .target)
+pub target-bytes-are : {w : List ℕ} (s : Stands w) (row : ℕ) → row < node-rows
+    → bytes (take target-words (drop (first-node-word + row * node-words + 1) w)) ≡ filled longest-target (node-row w row .target)
 target-bytes-are {w} s row r =
-    let x = node-row w row in
     let f = node-row-fits w row in
-    let t : take 17 (drop (2560 + row * 17) w) ≡ pack-node (node-row w row) = read-node s row r .words in
-    let d : take 16 (drop (2560 + row * 17 + 1) w) ≡ words (filled 64 (node-row w row .target))
-    = ap (take 16) (sym (drop-drop 1 (2560 + row * 17) w)) ∙ sym (behind (drop (2560 + row * 17) w)) ∙ ap (drop 1) (t ∙ node-words f) in
-    ap bytes d ∙ bytes-of-words 16 (filled 64 (node-row w row .target)) (filled-length 64 (node-row w row .target)) (filled-bytes 64 (f .target .bytes))
+    let at = first-node-word + row * node-words in
+    let target = node-row w row .target in
+    let d : take target-words (drop (at + 1) w) ≡ words (filled longest-target target)
+    = ap (take target-words) (sym (drop-drop 1 at w)) ∙ sym (behind (drop at w)) ∙ ap (drop 1) (read-node s row r ∙ node-packed f) in
+    ap bytes d ∙ bytes-of-words target-words (filled longest-target target) (filled-length longest-target target) (filled-bytes longest-target (f .target .bytes))
   where
-    behind : (l : List ℕ) → drop 1 (take 17 l) ≡ take 16 (drop 1 l)
+    behind : (l : List ℕ) → drop 1 (take node-words l) ≡ take target-words (drop 1 l)
     behind [] = refl
     behind (y ∷ l) = refl
 
-pub target-made : (t : List ℕ) {n : ℕ} {bs : List ℕ} → n ≡ length t → bs ≡ filled 64 t
-    → _≡_ {A = Target} (record { length = n; bytes = bs }) (record { length = length t; bytes = filled 64 t })
+pub target-made : (t : List ℕ) {n : ℕ} {bs : List ℕ} → n ≡ length t → bs ≡ filled longest-target t
+    → _≡_ {A = Target} (record { length = n; bytes = bs }) (record { length = length t; bytes = filled longest-target t })
 target-made t p q = λ i. record { length = p i; bytes = q i }

@@ -1,202 +1,188 @@
--- The four parts of the lent words: words stand for tables just where each part is the words of its rows, row by row; what a row's words
--- are, and what a row written into its part alone comes to. Assumes nothing.
-use mathlib.Core.Path.{_≡_, sym, ap, ap₂, subst, _∙_}
-use mathlib.Core.List.{List, _++_, map, append-assoc}
+-- The lent words by their parts, a table each, and what stands behind them: words stand for tables just where each part is the words of its
+-- rows, row by row; and what a row's words are. Assumes nothing.
+use mathlib.Core.Path.{_≡_, sym, ap, ap₂, _∙_}
+use mathlib.Core.List.{List, [], _++_, map, append-nil}
 use Prim.Native.Nat.{ℕ, _+_, _*_, _-_, _≤_, _<_}
 use native.Mathlib.Omega.{arith}
 use native.Mathlib.Nat.{zero-add}
-use borrow.Rule.Slice.PartMut.{midOf, putMid, same-len-mid}
-use lib.ListN.{length, getD, take, drop, set, length-append, length-drop, take-append-drop}
-use lib.Seq.{sets, length-sets, take-at, drop-at, take-take, take-append-le, drop-append-le, drop-drop, take-all, length-take-le}
+use borrow.Rule.Slice.PartMut.{midOf}
+use lib.ListN.{length, getD, take, drop, length-drop, take-append-drop, drop-of-length-le}
+use lib.Seq.{take-at, take-take, drop-append-le, drop-drop, length-take-le}
 use Rattle.model.specs.Lists.{joined}
-use Rattle.model.specs.Tables.{no-entry, no-node, no-hold, no-process}
+use Rattle.model.specs.Tables.{Entry, Node, Hold, Process, no-entry, no-node, no-hold, no-process, entry-rows, node-rows, hold-rows, process-rows}
+use Rattle.model.specs.Words.{word-count, entry-words, node-words, hold-words, process-words, first-node-word, first-hold-word, first-process-word}
 use Rattle.model.specs.Words.{pack-entry, unpack-entry, pack-node, unpack-node, pack-hold, unpack-hold, pack-process, unpack-process, pack, unpack}
 use Rattle.laws.proofs.Pieces.{joined-length}
-use Rattle.laws.proofs.RowWords.{same-halves, row-inside, pieces-take, rows-of, Just-rows, rows-length, row-at, exact-row, rows-set, just-rows-set}
+use Rattle.laws.proofs.RowWords.{same-halves, row-inside, pieces-take, rows-of, Just-rows, rows-length, row-at, exact-row}
 use Rattle.rows.specs.Stands.{Stands, entry-row, node-row, hold-row, process-row}
-use Rattle.invariants.proofs.Words.{entry-wide, node-wide, hold-wide, process-wide}
+use Rattle.laws.proofs.Words.{entry-wide, node-wide, hold-wide, process-wide}
 
 -- ONE PART
+
+-- a table in the words: how a row is read and written, how many rows of how many words there are, and the first word
+pub record Part (A : Type 0) : Type 0 where
+  pub read : List ℕ → A
+  pub write : A → List ℕ
+  pub rows : ℕ
+  pub width : ℕ
+  pub wide : (x : A) → length (write x) ≡ width
+  pub first : ℕ
+
+abbrev pub size : {A : Type 0} → Part A → ℕ
+size t = t .rows * t .width
+
+-- its words, and its rows
+abbrev pub part : {A : Type 0} → Part A → List ℕ → List ℕ
+part t w = midOf (t .first) (size t) w
+
+abbrev pub rows-in : {A : Type 0} → Part A → List ℕ → List A
+rows-in t w = rows-of (t .read) (t .rows) (t .width) (drop (t .first) w)
+
+-- the part is just the words of its rows
+abbrev pub Just : {A : Type 0} → Part A → List ℕ → Type 0
+Just t w = Just-rows (t .read) (t .write) (t .rows) (t .width) (part t w)
 
 pub mid-long : {A : Type 0} (a k : ℕ) (w : List A) → a + k ≤ length w → length (midOf a k w) ≡ k
 mid-long a k w h = length-take-le k (drop a w) (omega (arith, length-drop a w))
 
--- a part put in place, and the parts before and behind it
-pub part-put : {A : Type 0} (a k : ℕ) (w p : List A) → a + k ≤ length w → length p ≡ k → midOf a k (putMid a k w p) ≡ p
-part-put a k w p h e =
-    ap (take k) (drop-at (take a w) (p ++ drop k (drop a w)) a (length-take-le a w (omega arith))) ∙ take-at p (drop k (drop a w)) k e
+module _ {A : Type 0} (t : Part A) (w : List ℕ) where
+  -- the part, and what stands behind it
+  cut-off : part t w ++ drop (t .first + size t) w ≡ drop (t .first) w
+  cut-off = ap (λ l. part t w ++ l) (sym (drop-drop (size t) (t .first) w)) ∙ take-append-drop (size t) (drop (t .first) w)
 
-pub part-before : {A : Type 0} (a k b j : ℕ) (w p : List A) → b + j ≤ a → a ≤ length w → midOf b j (putMid a k w p) ≡ midOf b j w
-part-before a k b j w p h l = front (take a w) (p ++ drop k (drop a w)) b j (omega (arith, length-take-le a w l)) ∙ sym (front (take a w) (drop a w) b j (omega (arith, length-take-le a w l))) ∙ ap (midOf b j) (take-append-drop a w)
-  where
-    front : {A : Type 0} (x y : List A) (b j : ℕ) → b + j ≤ length x → midOf b j (x ++ y) ≡ midOf b j x
-    front x y b j h = ap (take j) (drop-append-le b x y (omega arith)) ∙ take-append-le j (drop b x) y (omega (arith, length-drop b x))
+  module _ (h : t .first + size t ≤ length w) where
+    -- the rows of a table are those of its part
+    pub rows-part : rows-of (t .read) (t .rows) (t .width) (part t w) ≡ rows-in t w
+    rows-part = ap (map (t .read)) (pieces-take (t .width) (t .rows) (drop (t .first) w) (omega (arith, length-drop (t .first) w)))
 
-pub part-behind : {A : Type 0} (a k b j : ℕ) (w p : List A) → a + k ≤ b → a + k ≤ length w → length p ≡ k → midOf b j (putMid a k w p) ≡ midOf b j w
-part-behind a k b j w p h l e =
-    let n : (a + k) + (b - (a + k)) ≡ b = omega arith in
-    let m : length (take a w ++ p) ≡ a + k = length-append (take a w) p ∙ ap₂ _+_ (length-take-le a w (omega arith)) e in
-    let d : drop (a + k) (putMid a k w p) ≡ drop (a + k) w
-    = ap (drop (a + k)) (sym (append-assoc (take a w) p (drop k (drop a w)))) ∙ drop-at (take a w ++ p) (drop k (drop a w)) (a + k) m ∙ drop-drop k a w in
-    ap (λ i. take j (drop i (putMid a k w p))) (sym n) ∙ ap (take j) (sym (drop-drop (b - (a + k)) (a + k) (putMid a k w p)) ∙ ap (drop (b - (a + k))) d ∙ drop-drop (b - (a + k)) (a + k) w)
-    ∙ ap (λ i. take j (drop i w)) n
+    joined-part : Just t w → joined (t .write) (rows-in t w) ≡ part t w
+    joined-part j = ap (joined (t .write)) (sym rows-part) ∙ j
 
--- the rows of a table are those of its part
-rows-in : {A : Type 0} (u : List ℕ → A) (n k a : ℕ) (w : List ℕ) → a + n * k ≤ length w → rows-of u n k (midOf a (n * k) w) ≡ rows-of u n k (drop a w)
-rows-in u n k a w h = ap (map u) (pieces-take k n (drop a w) (omega (arith, length-drop a w)))
+    -- words that begin with the rows of a table
+    begins : (rest more : List ℕ) → joined (t .write) (rows-in t w) ++ rest ≡ part t w ++ more → Just t w × (rest ≡ more)
+    begins rest more e =
+        let n : length (joined (t .write) (rows-in t w)) ≡ length (part t w)
+        = joined-length (t .write) (t .width) (t .wide) (rows-in t w) ∙ ap (λ m. m * t .width) (rows-length (t .read) (t .rows) (t .width) (drop (t .first) w))
+        ∙ sym (mid-long (t .first) (size t) w h) in
+        let q = same-halves (joined (t .write) (rows-in t w)) rest (part t w) more n e in
+        (ap (joined (t .write)) rows-part ∙ q .0, q .1)
 
-pub same-rows : {A : Type 0} (u : List ℕ → A) (n k a : ℕ) (w v : List ℕ) → a + n * k ≤ length w → a + n * k ≤ length v
-    → midOf a (n * k) v ≡ midOf a (n * k) w → rows-of u n k (drop a v) ≡ rows-of u n k (drop a w)
-same-rows u n k a w v h g e = sym (rows-in u n k a v g) ∙ ap (rows-of u n k) e ∙ rows-in u n k a w h
+    module _ (row : ℕ) (r : row < t .rows) where
+      -- what stands at a row's place
+      pub in-part : take (t .width) (drop (row * t .width) (part t w)) ≡ take (t .width) (drop (t .first + row * t .width) w)
+      in-part =
+          let k = t .width in
+          let i = row-inside {row = row} {n = t .rows} (t .width) r in
+          let c : drop (row * k) (part t w) ≡ take (size t - row * k) (drop (row * k) (drop (t .first) w))
+          = cut (row * k) (size t) (drop (t .first) w) (omega arith) (omega (arith, length-drop (t .first) w)) in
+          ap (take k) c ∙ take-take k (size t - row * k) (drop (row * k) (drop (t .first) w)) (omega arith) ∙ ap (take k) (drop-drop (row * k) (t .first) w)
+        where
+          cut : (i m : ℕ) (l : List ℕ) → i ≤ m → m ≤ length l → drop i (take m l) ≡ take (m - i) (drop i l)
+          cut i m l h g =
+              let t : length (take m l) ≡ m = length-take-le m l g in
+              let e : drop i (take m l) ++ drop m l ≡ drop i l = sym (drop-append-le i (take m l) (drop m l) (omega arith)) ∙ ap (drop i) (take-append-drop m l) in
+              sym (take-at (drop i (take m l)) (drop m l) (m - i) (length-drop i (take m l) ∙ ap (λ z. z - i) t)) ∙ ap (take (m - i)) e
 
--- the words at a place are those of the row x, and give it back
-pub record Row-words {A : Type 0} (u : List ℕ → A) (f : A → List ℕ) (at k : ℕ) (w : List ℕ) (x : A) : Type 0 where
-  pub words : take k (drop at w) ≡ f x
-  pub fits : u (f x) ≡ x
+      -- a row of a part that is just its rows
+      read-part : (d : A) → Just t w → take (t .width) (drop (t .first + row * t .width) w) ≡ t .write (getD (rows-in t w) row d)
+      read-part d e =
+          let x : getD (rows-in t w) row d ≡ t .read (take (t .width) (drop (row * t .width) (part t w)))
+          = ap (λ l. getD l row d) (sym rows-part) ∙ row-at (t .read) (t .rows) (t .width) (part t w) row d r in
+          sym in-part ∙ sym (exact-row (t .read) (t .write) (t .width) (t .wide) (t .rows) (part t w) e row r) ∙ ap (t .write) (sym x)
 
-module _ {A : Type 0} (u : List ℕ → A) (f : A → List ℕ) (n k : ℕ) (wide : (x : A) → length (f x) ≡ k) (a : ℕ) (w : List ℕ) (h : a + n * k ≤ length w) (row : ℕ) (r : row < n) where
-  -- what stands at a row's place
-  pub in-part : take k (drop (row * k) (midOf a (n * k) w)) ≡ take k (drop (a + row * k) w)
-  in-part =
-      let i = row-inside {row = row} {n = n} k r in
-      let c : drop (row * k) (take (n * k) (drop a w)) ≡ take (n * k - row * k) (drop (row * k) (drop a w)) = cut (row * k) (n * k) (drop a w) (omega arith) (omega (arith, length-drop a w)) in
-      ap (take k) c ∙ take-take k (n * k - row * k) (drop (row * k) (drop a w)) (omega arith) ∙ ap (take k) (drop-drop (row * k) a w)
-    where
-      cut : (i m : ℕ) (l : List ℕ) → i ≤ m → m ≤ length l → drop i (take m l) ≡ take (m - i) (drop i l)
-      cut i m l h g =
-          let t : length (take m l) ≡ m = length-take-le m l g in
-          let e : drop i (take m l) ++ drop m l ≡ drop i l = sym (drop-append-le i (take m l) (drop m l) (omega arith)) ∙ ap (drop i) (take-append-drop m l) in
-          sym (take-at (drop i (take m l)) (drop m l) (m - i) (length-drop i (take m l) ∙ ap (λ z. z - i) t)) ∙ ap (take (m - i)) e
+-- THE FOUR PARTS, AND WHAT STANDS BEHIND THEM
 
-  -- a row of a part that is just its rows
-  read-part : (d : A) → Just-rows u f n k (midOf a (n * k) w) → Row-words u f (a + row * k) k w (getD (rows-of u n k (drop a w)) row d)
-  read-part d e =
-      let x : getD (rows-of u n k (drop a w)) row d ≡ u (take k (drop (row * k) (midOf a (n * k) w))) = ap (λ l. getD l row d) (sym (rows-in u n k a w h)) ∙ row-at u n k (midOf a (n * k) w) row d r in
-      let q = exact-row u f k wide n (midOf a (n * k) w) e row r in
-      record { words = sym in-part ∙ sym q ∙ ap f (sym x); fits = ap (λ y. u (f y)) x ∙ ap u q ∙ sym x }
+abbrev pub entry-part : Part Entry
+entry-part = record { read = unpack-entry; write = pack-entry; rows = entry-rows; width = entry-words; wide = entry-wide; first = 0 }
 
-  -- a row written into the part
-  module _ (x : A) (fits : u (f x) ≡ x) {p : List ℕ} (e : p ≡ sets (midOf a (n * k) w) (row * k) (f x)) where
-    pub put-size : length p ≡ n * k
-    put-size = ap length e ∙ length-sets (midOf a (n * k) w) (row * k) (f x) ∙ mid-long a (n * k) w h
+abbrev pub node-part : Part Node
+node-part = record { read = unpack-node; write = pack-node; rows = node-rows; width = node-words; wide = node-wide; first = first-node-word }
 
-    pub put-long : length (putMid a (n * k) w p) ≡ length w
-    put-long = same-len-mid a (n * k) w p (put-size ∙ sym (mid-long a (n * k) w h))
+abbrev pub hold-part : Part Hold
+hold-part = record { read = unpack-hold; write = pack-hold; rows = hold-rows; width = hold-words; wide = hold-wide; first = first-hold-word }
 
-    pub put-just : Just-rows u f n k (midOf a (n * k) w) → Just-rows u f n k (midOf a (n * k) (putMid a (n * k) w p))
-    put-just j =
-        subst (Just-rows u f n k) (sym (part-put a (n * k) w p h put-size ∙ e))
-        (just-rows-set u f k wide n (midOf a (n * k) w) (mid-long a (n * k) w h) row r x fits j)
+abbrev pub process-part : Part Process
+process-part =
+    record { read = unpack-process; write = pack-process; rows = process-rows; width = process-words; wide = process-wide; first = first-process-word }
 
-    pub put-rows : rows-of u n k (drop a (putMid a (n * k) w p)) ≡ set (rows-of u n k (drop a w)) row x
-    put-rows =
-        sym (rows-in u n k a (putMid a (n * k) w p) (omega (arith, put-long))) ∙ ap (rows-of u n k) (part-put a (n * k) w p h put-size ∙ e)
-        ∙ rows-set u f k wide n (midOf a (n * k) w) (mid-long a (n * k) w h) row r x fits ∙ ap (λ l. set l row x) (rows-in u n k a w h)
-
--- THE FOUR PARTS
+-- what stands behind the processes: nothing
+abbrev pub Behind : List ℕ → Type 0
+Behind w = drop (process-part .first + size process-part) w ≡ []
 
 pub record Parts (w : List ℕ) : Type 0 where
-  pub long : length w ≡ 8512
-  pub entries : Just-rows unpack-entry pack-entry 512 5 (midOf 0 2560 w)
-  pub nodes : Just-rows unpack-node pack-node 256 17 (midOf 2560 4352 w)
-  pub holds : Just-rows unpack-hold pack-hold 256 6 (midOf 6912 1536 w)
-  pub processes : Just-rows unpack-process pack-process 64 1 (midOf 8448 64 w)
+  pub long : length w ≡ word-count
+  pub entries : Just entry-part w
+  pub nodes : Just node-part w
+  pub holds : Just hold-part w
+  pub processes : Just process-part w
+  pub behind : Behind w
 
-four-parts : (w : List ℕ) → length w ≡ 8512 → midOf 0 2560 w ++ (midOf 2560 4352 w ++ (midOf 6912 1536 w ++ midOf 8448 64 w)) ≡ w
-four-parts w l =
-    let last : take 64 (drop 8448 w) ≡ drop 1536 (drop 6912 w) = take-all 64 (drop 8448 w) (omega (arith, length-drop 8448 w)) ∙ sym (drop-drop 1536 6912 w) in
-    ap (λ m. midOf 0 2560 w ++ (midOf 2560 4352 w ++ m)) (ap (λ m. midOf 6912 1536 w ++ m) last ∙ take-append-drop 1536 (drop 6912 w) ∙ sym (drop-drop 4352 2560 w))
-    ∙ ap (λ m. midOf 0 2560 w ++ m) (take-append-drop 4352 (drop 2560 w)) ∙ take-append-drop 2560 w
+pub nothing-behind : (w : List ℕ) → length w ≡ word-count → Behind w
+nothing-behind w l = drop-of-length-le w {i = word-count} (omega arith)
 
--- how many rows words hold, whatever they are
-pub entries-full : (w : List ℕ) → length (unpack w .entries) ≡ 512
-unfolding unpack
-entries-full w = rows-length unpack-entry 512 5 w
-
-pub nodes-full : (w : List ℕ) → length (unpack w .nodes) ≡ 256
-unfolding unpack
-nodes-full w = rows-length unpack-node 256 17 (drop 2560 w)
-
-pub holds-full : (w : List ℕ) → length (unpack w .holds) ≡ 256
-unfolding unpack
-holds-full w = rows-length unpack-hold 256 6 (drop 6912 w)
-
-pub processes-full : (w : List ℕ) → length (unpack w .processes) ≡ 64
-unfolding unpack
-processes-full w = rows-length unpack-process 64 1 (drop 8448 w)
-
-module _ (w : List ℕ) (l : length w ≡ 8512) where
-  -- the tables by their parts
-  entries-in : rows-of unpack-entry 512 5 (midOf 0 2560 w) ≡ unpack w .entries
-  unfolding unpack
-  entries-in = rows-in unpack-entry 512 5 0 w (omega arith)
-
-  nodes-in : rows-of unpack-node 256 17 (midOf 2560 4352 w) ≡ unpack w .nodes
-  unfolding unpack
-  nodes-in = rows-in unpack-node 256 17 2560 w (omega arith)
-
-  holds-in : rows-of unpack-hold 256 6 (midOf 6912 1536 w) ≡ unpack w .holds
-  unfolding unpack
-  holds-in = rows-in unpack-hold 256 6 6912 w (omega arith)
-
-  processes-in : rows-of unpack-process 64 1 (midOf 8448 64 w) ≡ unpack w .processes
-  unfolding unpack
-  processes-in = rows-in unpack-process 64 1 8448 w (omega arith)
+all-parts : (w : List ℕ)
+    → part entry-part w ++ (part node-part w ++ (part hold-part w ++ (part process-part w ++ drop (process-part .first + size process-part) w))) ≡ w
+all-parts w =
+    ap (λ l. part entry-part w ++ (part node-part w ++ l)) (ap (λ l. part hold-part w ++ l) (cut-off process-part w) ∙ cut-off hold-part w)
+    ∙ ap (λ l. part entry-part w ++ l) (cut-off node-part w) ∙ cut-off entry-part w
 
 pub parts-stand : {w : List ℕ} → Parts w → Stands w
-unfolding pack
+unfolding pack unpack
 parts-stand {w} p =
     let l = p .long in
+    let last = joined-part process-part w (omega arith) (p .processes) ∙ sym (append-nil (part process-part w)) ∙ ap (λ l. part process-part w ++ l) (sym (p .behind)) in
     record {
       long = l;
-      same = ap₂ _++_ (ap (joined pack-entry) (sym (entries-in w l)) ∙ p .entries)
-          (ap₂ _++_ (ap (joined pack-node) (sym (nodes-in w l)) ∙ p .nodes)
-          (ap₂ _++_ (ap (joined pack-hold) (sym (holds-in w l)) ∙ p .holds) (ap (joined pack-process) (sym (processes-in w l)) ∙ p .processes)))
-          ∙ four-parts w l;
+      same = ap₂ _++_ (joined-part entry-part w (omega arith) (p .entries)) (ap₂ _++_ (joined-part node-part w (omega arith) (p .nodes))
+          (ap₂ _++_ (joined-part hold-part w (omega arith) (p .holds)) last)) ∙ all-parts w;
     }
 
 pub stands-parts : {w : List ℕ} → Stands w → Parts w
-unfolding pack
+unfolding pack unpack
 stands-parts {w} s =
     let l = s .long in
-    let t = unpack w in
-    let a = same-halves (joined pack-entry (t .entries)) (joined pack-node (t .nodes) ++ (joined pack-hold (t .holds) ++ joined pack-process (t .processes)))
-    (midOf 0 2560 w) (midOf 2560 4352 w ++ (midOf 6912 1536 w ++ midOf 8448 64 w))
-    (joined-length pack-entry 5 entry-wide (t .entries) ∙ ap (λ n. n * 5) (entries-full w) ∙ sym (mid-long 0 2560 w (omega arith)))
-    (s .same ∙ sym (four-parts w l)) in
-    let b = same-halves (joined pack-node (t .nodes)) (joined pack-hold (t .holds) ++ joined pack-process (t .processes))
-    (midOf 2560 4352 w) (midOf 6912 1536 w ++ midOf 8448 64 w)
-    (joined-length pack-node 17 node-wide (t .nodes) ∙ ap (λ n. n * 17) (nodes-full w) ∙ sym (mid-long 2560 4352 w (omega arith))) (a .1) in
-    let c = same-halves (joined pack-hold (t .holds)) (joined pack-process (t .processes)) (midOf 6912 1536 w) (midOf 8448 64 w)
-    (joined-length pack-hold 6 hold-wide (t .holds) ∙ ap (λ n. n * 6) (holds-full w) ∙ sym (mid-long 6912 1536 w (omega arith))) (b .1) in
-    record {
-      long = l;
-      entries = ap (joined pack-entry) (entries-in w l) ∙ a .0;
-      nodes = ap (joined pack-node) (nodes-in w l) ∙ b .0;
-      holds = ap (joined pack-hold) (holds-in w l) ∙ c .0;
-      processes = ap (joined pack-process) (processes-in w l) ∙ c .1;
-    }
+    let a = begins entry-part w (omega arith) _ _ (s .same ∙ sym (all-parts w)) in
+    let b = begins node-part w (omega arith) _ _ (a .1) in
+    let c = begins hold-part w (omega arith) _ _ (b .1) in
+    let d = begins process-part w (omega arith) [] _ (append-nil (joined pack-process (rows-in process-part w)) ∙ c .1) in
+    record { long = l; entries = a .0; nodes = b .0; holds = c .0; processes = d .0; behind = sym (d .1) }
 
--- A ROW IS READ
+-- how many rows words hold, whatever they are
+pub entries-full : (w : List ℕ) → length (unpack w .entries) ≡ entry-rows
+unfolding unpack
+entries-full w = rows-length unpack-entry entry-rows entry-words w
+
+pub nodes-full : (w : List ℕ) → length (unpack w .nodes) ≡ node-rows
+unfolding unpack
+nodes-full w = rows-length unpack-node node-rows node-words (drop first-node-word w)
+
+pub holds-full : (w : List ℕ) → length (unpack w .holds) ≡ hold-rows
+unfolding unpack
+holds-full w = rows-length unpack-hold hold-rows hold-words (drop first-hold-word w)
+
+pub processes-full : (w : List ℕ) → length (unpack w .processes) ≡ process-rows
+unfolding unpack
+processes-full w = rows-length unpack-process process-rows process-words (drop first-process-word w)
+
+-- A ROW IS READ: its words are those of the row
 
 module _ {w : List ℕ} (s : Stands w) (row : ℕ) where
-  pub read-entry : row < 512 → Row-words unpack-entry pack-entry (row * 5) 5 w (entry-row w row)
+  pub read-entry : row < entry-rows → take entry-words (drop (row * entry-words) w) ≡ pack-entry (entry-row w row)
   unfolding unpack
   read-entry r =
-      let e = read-part unpack-entry pack-entry 512 5 entry-wide 0 w (omega (arith, s .long)) row r no-entry (stands-parts s .entries) in
-      record { words = ap (λ n. take 5 (drop n w)) (sym (zero-add (row * 5))) ∙ e .words; fits = e .fits }
+      ap (λ n. take entry-words (drop n w)) (sym (zero-add (row * entry-words)))
+      ∙ read-part entry-part w (omega (arith, s .long)) row r no-entry (stands-parts s .entries)
 
-  pub read-node : row < 256 → Row-words unpack-node pack-node (2560 + row * 17) 17 w (node-row w row)
+  pub read-node : row < node-rows → take node-words (drop (first-node-word + row * node-words) w) ≡ pack-node (node-row w row)
   unfolding unpack
-  read-node r = read-part unpack-node pack-node 256 17 node-wide 2560 w (omega (arith, s .long)) row r no-node (stands-parts s .nodes)
+  read-node r = read-part node-part w (omega (arith, s .long)) row r no-node (stands-parts s .nodes)
 
-  pub read-hold : row < 256 → Row-words unpack-hold pack-hold (6912 + row * 6) 6 w (hold-row w row)
+  pub read-hold : row < hold-rows → take hold-words (drop (first-hold-word + row * hold-words) w) ≡ pack-hold (hold-row w row)
   unfolding unpack
-  read-hold r = read-part unpack-hold pack-hold 256 6 hold-wide 6912 w (omega (arith, s .long)) row r no-hold (stands-parts s .holds)
+  read-hold r = read-part hold-part w (omega (arith, s .long)) row r no-hold (stands-parts s .holds)
 
-  pub read-process : row < 64 → Row-words unpack-process pack-process (8448 + row) 1 w (process-row w row)
+  pub read-process : row < process-rows → take process-words (drop (first-process-word + row) w) ≡ pack-process (process-row w row)
   unfolding unpack
   read-process r =
-      let e = read-part unpack-process pack-process 64 1 process-wide 8448 w (omega (arith, s .long)) row r no-process (stands-parts s .processes) in
-      let n : 8448 + row ≡ 8448 + row * 1 = omega arith in
-      record { words = ap (λ m. take 1 (drop m w)) n ∙ e .words; fits = e .fits }
+      let n : first-process-word + row ≡ first-process-word + row * process-words = omega arith in
+      ap (λ m. take process-words (drop m w)) n ∙ read-part process-part w (omega (arith, s .long)) row r no-process (stands-parts s .processes)

@@ -13,6 +13,14 @@ use Rattle.rows.specs.declared.Block.{Block}
 abbrev pub block-words : Block → List ℕ
 block-words b = b .first ∷ b .second ∷ b .third ∷ b .fourth ∷ []
 
+-- the block that stands in the words from a place on
+abbrev pub block-in : List ℕ → ℕ → Block
+block-in w at = record { first = getD w at 0; second = getD w (at + 1) 0; third = getD w (at + 2) 0; fourth = getD w (at + 3) 0 }
+
+-- how many words a link's target has
+abbrev pub target-words : ℕ
+target-words = 16
+
 -- the name that a block holds
 unfoldable pub name-of : Block → Name
 name-of b = unpack-name (block-words b)

@@ -1,3 +1,4 @@
 pub mod Blocks
+pub mod Meets
 pub mod Rows
 pub mod Stands

@@ -16,19 +16,6 @@ pub record Becomes (v : List ℕ) (t : Tables) : Type 0 where
   pub stands : Stands v
   pub tables : unpack v ≡ t
 
--- the tables with one of the four replaced
-abbrev pub with-entries : Tables → List Entry → Tables
-with-entries t x = record { entries = x; nodes = t .nodes; holds = t .holds; processes = t .processes }
-
-abbrev pub with-nodes : Tables → List Node → Tables
-with-nodes t x = record { entries = t .entries; nodes = x; holds = t .holds; processes = t .processes }
-
-abbrev pub with-holds : Tables → List Hold → Tables
-with-holds t x = record { entries = t .entries; nodes = t .nodes; holds = x; processes = t .processes }
-
-abbrev pub with-processes : Tables → List Process → Tables
-with-processes t x = record { entries = t .entries; nodes = t .nodes; holds = t .holds; processes = x }
-
 -- the row of each table that words hold
 abbrev pub entry-row : List ℕ → ℕ → Entry
 entry-row w row = getD (unpack w .entries) row no-entry

@@ -3,9 +3,10 @@ ghost use mathlib.Core.Path.{_≡_};
 ghost use Prim.Native.Nat.{_+_, _*_, _/_, _%_, _≤_, _<_};
 ghost use lib.ListN.{length, getD, take, drop};
 ghost use Rattle.model.specs.Lists.{filled};
-ghost use Rattle.model.specs.Tables.{node-at};
+ghost use Rattle.model.specs.Paths.{longest-name, longest-target};
+ghost use Rattle.model.specs.Tables.{entry-rows, node-rows, hold-rows, process-rows, node-at};
 ghost use Rattle.model.specs.Words.{bytes, unpack};
-ghost use Rattle.rows.specs.Blocks.{block-of, same-block, word-from};
+ghost use Rattle.rows.specs.Blocks.{block-in, block-of, same-block, target-words, word-from};
 ghost use Rattle.rows.specs.Stands.{Stands, entry-row, node-row, hold-row, process-row};
 
 // Where the rows of each table start, the entries at the front, and how many words a row has; a process has one.
@@ -37,6 +38,16 @@ pub const HOLD_ROWS: usize = 256;
 
 pub const PROCESS_ROWS: usize = 64;
 
+// Where the role stands in a hold.
+pub const ROLE_PLACE: usize = 5;
+
+// What one in a byte of a word is worth, the last byte aside.
+pub const FIRST_BYTE_UNIT: u32 = 16777216;
+
+pub const SECOND_BYTE_UNIT: u32 = 65536;
+
+pub const THIRD_BYTE_UNIT: u32 = 256;
+
 // What one in a field is worth in its word: in the upper half of a pair, in a kind or role, in a target's length, in a count.
 pub const UPPER_UNIT: u32 = 65536;
 
@@ -45,6 +56,13 @@ pub const TOP_UNIT: u32 = 1073741824;
 pub const LENGTH_UNIT: u32 = 8388608;
 
 pub const COUNT_UNIT: u32 = 8192;
+
+// How many values a byte, a target's length and a count can have.
+pub const BYTE_VALUES: u32 = 256;
+
+pub const LENGTH_VALUES: u32 = 128;
+
+pub const COUNT_VALUES: u32 = 1024;
 
 // The kinds of a node, 0 for a free row.
 pub const FILE: u8 = 1;
@@ -111,13 +129,13 @@ pub fn top_bits(word: u32) -> u8
 fn count_bits(word: u32) -> u16
     ensures { λ r. ⌜ r ≡ word / 8192 % 1024 ⌝ }
 {
-    (word / COUNT_UNIT % 1024) as u16
+    (word / COUNT_UNIT % COUNT_VALUES) as u16
 }
 
 pub fn length_bits(word: u32) -> usize
     ensures { λ r. ⌜ r ≡ word / 8388608 % 128 ⌝ }
 {
-    (word / LENGTH_UNIT % 128) as usize
+    (word / LENGTH_UNIT % LENGTH_VALUES) as usize
 }
 
 // A node, or a link of a chain, as a number that rows are counted by.
@@ -131,7 +149,7 @@ pub fn wide(number: u16) -> usize
 
 pub fn block_at(words: &[u32], at: usize) -> Block
     requires { ⌜ at + 4 ≤ length (now words) ⌝ }
-    ensures { λ r. ⌜ r ≡ record { first = getD (now (words .entry)) at 0; second = getD (now (words .entry)) (at + 1) 0; third = getD (now (words .entry)) (at + 2) 0; fourth = getD (now (words .entry)) (at + 3) 0 } ⌝ }
+    ensures { λ r. ⌜ r ≡ block-in (now (words .entry)) at ⌝ }
 {
     Block {
         first: words[at],
@@ -144,7 +162,10 @@ pub fn block_at(words: &[u32], at: usize) -> Block
 fn join_bytes(first: u8, second: u8, third: u8, fourth: u8) -> u32
     ensures { λ r. ⌜ r ≡ ((first * 256 + second) * 256 + third) * 256 + fourth ⌝ }
 {
-    first as u32 * 16777216 + second as u32 * 65536 + third as u32 * 256 + fourth as u32
+    first as u32 * FIRST_BYTE_UNIT
+        + second as u32 * SECOND_BYTE_UNIT
+        + third as u32 * THIRD_BYTE_UNIT
+        + fourth as u32
 }
 
 // Byte k of the `count` bytes from `from` on, 0 behind them.
@@ -157,7 +178,7 @@ fn byte_or_zero(path: &[u8], from: usize, count: usize, k: usize) -> u8
 
 // Four of these bytes as a word, the first the most significant.
 pub fn four_bytes(path: &[u8], from: usize, count: usize, k: usize) -> u32
-    requires { ⌜ (from + count ≤ length (now path)) × (k < 64) ⌝ }
+    requires { ⌜ (from + count ≤ length (now path)) × (k < longest-target) ⌝ }
     ensures { λ r. ⌜ r ≡ word-from (take count (drop from (now (path .entry)))) k ⌝ }
 {
     join_bytes(
@@ -170,7 +191,7 @@ pub fn four_bytes(path: &[u8], from: usize, count: usize, k: usize) -> u32
 
 // The block of the name that stands in the path: `count` bytes from `from` on.
 pub fn block_from(path: &[u8], from: usize, count: usize) -> Block
-    requires { ⌜ (from + count ≤ length (now path)) × (count ≤ 14) ⌝ }
+    requires { ⌜ (from + count ≤ length (now path)) × (count ≤ longest-name) ⌝ }
     ensures { λ r. ⌜ r ≡ block-of (take count (drop from (now (path .entry)))) ⌝ }
 {
     Block {
@@ -204,21 +225,21 @@ pub fn same_blocks(a: Block, b: Block) -> bool
 // ENTRIES
 
 pub fn entry_directory(words: &[u32], row: usize) -> u16
-    requires { ⌜ (Stands (now words)) × (row < 512) ⌝ }
+    requires { ⌜ (Stands (now words)) × (row < entry-rows) ⌝ }
     ensures { λ r. ⌜ r ≡ entry-row (now (words .entry)) row .place .directory ⌝ }
 {
     upper_half(words[row * ENTRY_WIDTH])
 }
 
 pub fn entry_node(words: &[u32], row: usize) -> u16
-    requires { ⌜ (Stands (now words)) × (row < 512) ⌝ }
+    requires { ⌜ (Stands (now words)) × (row < entry-rows) ⌝ }
     ensures { λ r. ⌜ r ≡ entry-row (now (words .entry)) row .node ⌝ }
 {
     lower_half(words[row * ENTRY_WIDTH])
 }
 
 pub fn entry_name(words: &[u32], row: usize) -> Block
-    requires { ⌜ (Stands (now words)) × (row < 512) ⌝ }
+    requires { ⌜ (Stands (now words)) × (row < entry-rows) ⌝ }
     ensures { λ r. ⌜ r ≡ block-of (entry-row (now (words .entry)) row .place .name) ⌝ }
 {
     block_at(words, row * ENTRY_WIDTH + 1)
@@ -227,21 +248,21 @@ pub fn entry_name(words: &[u32], row: usize) -> Block
 // NODES, by row; node n is row n - 1
 
 pub fn kind_in(words: &[u32], row: usize) -> u8
-    requires { ⌜ (Stands (now words)) × (row < 256) ⌝ }
+    requires { ⌜ (Stands (now words)) × (row < node-rows) ⌝ }
     ensures { λ r. ⌜ r ≡ node-row (now (words .entry)) row .kind ⌝ }
 {
     top_bits(words[NODES_START + row * NODE_WIDTH])
 }
 
 pub fn count_in(words: &[u32], row: usize) -> u16
-    requires { ⌜ (Stands (now words)) × (row < 256) ⌝ }
+    requires { ⌜ (Stands (now words)) × (row < node-rows) ⌝ }
     ensures { λ r. ⌜ r ≡ node-row (now (words .entry)) row .count ⌝ }
 {
     count_bits(words[NODES_START + row * NODE_WIDTH])
 }
 
 fn target_length_in(words: &[u32], row: usize) -> usize
-    requires { ⌜ (Stands (now words)) × (row < 256) ⌝ }
+    requires { ⌜ (Stands (now words)) × (row < node-rows) ⌝ }
     ensures { λ r. ⌜ r ≡ length (node-row (now (words .entry)) row .target) ⌝ }
 {
     length_bits(words[NODES_START + row * NODE_WIDTH])
@@ -251,21 +272,21 @@ fn byte_of(word: u32, place: u32) -> u8
     requires { ⌜ 0 < place ⌝ }
     ensures { λ r. ⌜ r ≡ word / place % 256 ⌝ }
 {
-    (word / place % 256) as u8
+    (word / place % BYTE_VALUES) as u8
 }
 
-// The bytes of the 16 words from `at` on.
+// The bytes of a target's words from `at` on.
 pub fn bytes_at(words: &[u32], at: usize) -> [u8; TARGET_BYTES]
-    requires { ⌜ at + 16 ≤ length (now words) ⌝ }
-    ensures { λ r. ⌜ r ≡ bytes (take 16 (drop at (now (words .entry)))) ⌝ }
+    requires { ⌜ at + target-words ≤ length (now words) ⌝ }
+    ensures { λ r. ⌜ r ≡ bytes (take target-words (drop at (now (words .entry)))) ⌝ }
 {
     let mut out = [0u8; TARGET_BYTES];
     let mut k = 0;
     while k < TARGET_WORDS {
         let word = words[at + k];
-        out[k * 4] = byte_of(word, 16777216);
-        out[k * 4 + 1] = byte_of(word, 65536);
-        out[k * 4 + 2] = byte_of(word, 256);
+        out[k * 4] = byte_of(word, FIRST_BYTE_UNIT);
+        out[k * 4 + 1] = byte_of(word, SECOND_BYTE_UNIT);
+        out[k * 4 + 2] = byte_of(word, THIRD_BYTE_UNIT);
         out[k * 4 + 3] = byte_of(word, 1);
         k += 1;
     }
@@ -273,8 +294,8 @@ pub fn bytes_at(words: &[u32], at: usize) -> [u8; TARGET_BYTES]
 }
 
 pub fn target_in(words: &[u32], row: usize) -> Target
-    requires { ⌜ (Stands (now words)) × (row < 256) ⌝ }
-    ensures { λ r. ⌜ r ≡ record { length = length (node-row (now (words .entry)) row .target); bytes = filled 64 (node-row (now (words .entry)) row .target) } ⌝ }
+    requires { ⌜ (Stands (now words)) × (row < node-rows) ⌝ }
+    ensures { λ r. ⌜ r ≡ record { length = length (node-row (now (words .entry)) row .target); bytes = filled longest-target (node-row (now (words .entry)) row .target) } ⌝ }
 {
     Target {
         length: target_length_in(words, row),
@@ -315,44 +336,44 @@ pub fn node_count(words: &[u32], node: u16) -> u16
 // HOLDS
 
 pub fn hold_directory(words: &[u32], row: usize) -> u16
-    requires { ⌜ (Stands (now words)) × (row < 256) ⌝ }
+    requires { ⌜ (Stands (now words)) × (row < hold-rows) ⌝ }
     ensures { λ r. ⌜ r ≡ hold-row (now (words .entry)) row .place .directory ⌝ }
 {
     upper_half(words[HOLDS_START + row * HOLD_WIDTH])
 }
 
 pub fn hold_process(words: &[u32], row: usize) -> u16
-    requires { ⌜ (Stands (now words)) × (row < 256) ⌝ }
+    requires { ⌜ (Stands (now words)) × (row < hold-rows) ⌝ }
     ensures { λ r. ⌜ r ≡ hold-row (now (words .entry)) row .process ⌝ }
 {
     lower_half(words[HOLDS_START + row * HOLD_WIDTH])
 }
 
 pub fn hold_name(words: &[u32], row: usize) -> Block
-    requires { ⌜ (Stands (now words)) × (row < 256) ⌝ }
+    requires { ⌜ (Stands (now words)) × (row < hold-rows) ⌝ }
     ensures { λ r. ⌜ r ≡ block-of (hold-row (now (words .entry)) row .place .name) ⌝ }
 {
     block_at(words, HOLDS_START + row * HOLD_WIDTH + 1)
 }
 
 pub fn hold_role(words: &[u32], row: usize) -> u8
-    requires { ⌜ (Stands (now words)) × (row < 256) ⌝ }
+    requires { ⌜ (Stands (now words)) × (row < hold-rows) ⌝ }
     ensures { λ r. ⌜ r ≡ hold-row (now (words .entry)) row .role ⌝ }
 {
-    top_bits(words[HOLDS_START + row * HOLD_WIDTH + 5])
+    top_bits(words[HOLDS_START + row * HOLD_WIDTH + ROLE_PLACE])
 }
 
 // PROCESSES
 
 pub fn process_number(words: &[u32], row: usize) -> u16
-    requires { ⌜ (Stands (now words)) × (row < 64) ⌝ }
+    requires { ⌜ (Stands (now words)) × (row < process-rows) ⌝ }
     ensures { λ r. ⌜ r ≡ process-row (now (words .entry)) row .number ⌝ }
 {
     upper_half(words[PROCESSES_START + row])
 }
 
 pub fn process_user(words: &[u32], row: usize) -> u16
-    requires { ⌜ (Stands (now words)) × (row < 64) ⌝ }
+    requires { ⌜ (Stands (now words)) × (row < process-rows) ⌝ }
     ensures { λ r. ⌜ r ≡ process-row (now (words .entry)) row .user ⌝ }
 {
     lower_half(words[PROCESSES_START + row])

@@ -1,38 +1,32 @@
 -- The test and the index are kept: no record makes sound tables unsound, and calls that leave the entries leave their index. Assumes nothing.
 use mathlib.Core.Path.{_≡_, refl, sym, ap, subst, _∙_}
-use mathlib.Core.Bool.{Bool, true, false, not}
+use mathlib.Core.Bool.{Bool, true, false, not, _||_}
 use mathlib.Core.List.{List}
-use Prim.Native.Nat.{ℕ, _<_}
-use native.Mathlib.Omega.{arith}
-use borrow.Author.Tests.{ltb-true}
-use lib.Dec.{ltb}
-use lib.ListN.{getD}
+use Prim.Native.Nat.{ℕ}
 use Rattle.model.specs.Refusals.{Outcome, refused, granted}
-use Rattle.model.specs.Tables.{Entry, Tables, no-entry, free-entry}
+use Rattle.model.specs.Tables.{Entry, Tables, entry-rows}
 use Rattle.model.specs.Words.{unpack}
 use Rattle.model.specs.Sound.{entries-distinct, sound}
-use Rattle.model.specs.Records.{Call, taken}
+use Rattle.model.specs.Records.{Call, calls, keeps-entries, row-of, taken}
 use Rattle.model.specs.Calls.{Change, step}
 use Rattle.model.specs.Serve.{Served, judged, serve}
 use Rattle.model.specs.declared.Answer.{Answer}
 use Rattle.laws.proofs.Bools.{clash}
-use Rattle.laws.proofs.Choices.{chosen}
 use Rattle.invariants.proofs.Cases.{Gives, Saw, seen, held, Step, by-enter, by-fork, by-exec, by-exit, by-check, by-look, by-use, by-create, by-mkdir, by-symlink, by-link, by-unlink, by-rmdir, step-cases}
 use Rattle.invariants.proofs.Kept.{sound-kept}
 use Rattle.invariants.specs.Accepts.{accepts}
 use Rattle.invariants.proofs.Served.{accepted, granted-accepts, granted-in-order, words-in-order}
-use Rattle.invariants.proofs.Words.{unpack-pack}
+use Rattle.laws.proofs.Words.{unpack-pack}
 use Rattle.rows.specs.Stands.{Stands}
-use Rattle.rows.specs.Blocks.{block-of}
 use Rattle.index.specs.Buckets.{Chained}
-use Rattle.index.specs.Indexed.{place-bucket, Indexed}
+use Rattle.index.specs.Indexed.{entry-chains, Indexed}
 use Rattle.records.specs.declared.Fields.{Fields}
-use Rattle.records.specs.Reading.{reading}
-use Rattle.calls.specs.Meets.{answer-of, words-of, Meets}
-use Rattle.calls.proofs.Meeting.{served-is}
-use Rattle.accepted.specs.Ready.{call-in, cut-short, Ready}
-use Rattle.accepted.proofs.Judging.{judged-step}
-use Rattle.accepted.proofs.Walking.{stands-sound}
+use Rattle.records.specs.Reading.{cut-short, reading}
+use Rattle.rows.specs.Meets.{answer-of, words-of, Meets}
+use Rattle.rows.proofs.Meeting.{served-is}
+use Rattle.reaching.specs.Ready.{call-in, Ready}
+use Rattle.reaching.proofs.Judging.{judged-step}
+use Rattle.reaching.proofs.Walking.{stands-sound}
 use Rattle.runs.specs.Tested.{Tested, leaves-entries}
 
 -- THE TEST
@@ -56,19 +50,15 @@ unfolding entries-distinct
 index-kept {w} {v} {heads} {next} i stands e =
     record {
       stands = stands;
-      chained = subst (λ (es : List Entry). Chained (used es) (bucket es) 1021 512 heads next 512) (sym e) (i .chained);
+      chained = subst (λ (es : List Entry). Chained (entry-chains es) heads next entry-rows) (sym e) (i .chained);
       distinct = rw e (i .distinct);
     }
-  where
-    used : List Entry → ℕ → Bool
-    used es k = not (free-entry (getD es k no-entry))
 
-    bucket : List Entry → ℕ → ℕ
-    bucket es k = place-bucket (getD es k no-entry .place .directory) (block-of (getD es k no-entry .place .name))
-
--- calls 1 to 7 write no entry
-early-leaves : (t : Tables) (r : Call) (c : Change) → r .call < 8 → step t r ≡ granted c → c .tables .entries ≡ t .entries
-early-leaves t r c low e = go (step-cases t r c e)
+-- the calls that the table says so of write no entry
+keepers-leave : (t : Tables) (r : Call) (c : Change) → keeps-entries (row-of (r .call) .effect) ≡ true → step t r ≡ granted c
+    → c .tables .entries ≡ t .entries
+unfolding keeps-entries row-of calls
+keepers-leave t r c keeper e = go (step-cases t r c e)
   where
     given : {a : Answer} {u : Tables} → Gives c a u → c .tables .entries ≡ u .entries
     given g = ap (λ (x : Tables). x .entries) (g .tables)
@@ -76,6 +66,9 @@ early-leaves t r c low e = go (step-cases t r c e)
     saw : {p : ℕ} {g : _} → Saw t p g c → c .tables .entries ≡ t .entries
     saw (seen way gives) = given gives
     saw (held way room gives) = given gives
+
+    writes : {A : Type 0} (n : ℕ) → r .call ≡ n → keeps-entries (row-of n .effect) ≡ false → A
+    writes n is writing = clash (rw is at keeper) writing
 
     go : Step t r c → c .tables .entries ≡ t .entries
     go (by-enter n is) = given (is .gives)
@@ -85,12 +78,12 @@ early-leaves t r c low e = go (step-cases t r c e)
     go (by-check n is) = saw (is .saw)
     go (by-look n is) = saw (is .saw)
     go (by-use n is) = saw (is .saw)
-    go (by-create n is) = absurd (let z : ⊥ = omega arith in z)
-    go (by-mkdir n is) = absurd (let z : ⊥ = omega arith in z)
-    go (by-symlink n is) = absurd (let z : ⊥ = omega arith in z)
-    go (by-link n is) = absurd (let z : ⊥ = omega arith in z)
-    go (by-unlink n is) = absurd (let z : ⊥ = omega arith in z)
-    go (by-rmdir n is) = absurd (let z : ⊥ = omega arith in z)
+    go (by-create n is) = writes 8 n refl
+    go (by-mkdir n is) = writes 9 n refl
+    go (by-symlink n is) = writes 10 n refl
+    go (by-link n is) = writes 11 n refl
+    go (by-unlink n is) = writes 12 n refl
+    go (by-rmdir n is) = writes 13 n refl
 
 -- ONE CALL
 
@@ -105,18 +98,19 @@ module _ {w heads next s : List ℕ} {f : Fields} (ready : Ready w heads next s 
       let m′ : Meets w (judged w s) a v = rw judged-is m in
       rw (words-served w s m′) (sound-kept w s (ready .bytes) (ready .sound))
 
-  -- a granted call that leaves the entries is an early one
+  -- a granted call leaves the entries only where the table says so
   entries-after : (c : Change) → step (unpack w) (call-in s f) ≡ granted c → leaves-entries (f .call) (c .answer) ≡ true
       → c .tables .entries ≡ unpack w .entries
   unfolding leaves-entries
-  entries-after c e =
-      chosen (λ b. b ≡ true → c .tables .entries ≡ unpack w .entries) (ltb (f .call) 8) _ _
-      (λ early _. early-leaves (unpack w) (call-in s f) c (ltb-true (f .call) 8 early) e)
-      (λ _ refusing. absurd (clash (granted-accepts w s c (accepted w s c (judged-is ∙ e))) (refuses (accepts (c .answer)) refusing)))
+  entries-after c e = go (keeps-entries (row-of (f .call) .effect)) refl
     where
       refuses : (b : Bool) → not b ≡ true → b ≡ false
       refuses true h = clash h refl
       refuses false h = refl
+
+      go : (b : Bool) → keeps-entries (row-of (f .call) .effect) ≡ b → (b || not (accepts (c .answer))) ≡ true → c .tables .entries ≡ unpack w .entries
+      go true keeper _ = keepers-leave (unpack w) (call-in s f) c keeper e
+      go false _ refusing = clash (granted-accepts w s c (accepted w s c (judged-is ∙ e))) (refuses (accepts (c .answer)) refusing)
 
   pub index-after : leaves-entries (f .call) a ≡ true → Indexed v heads next
   unfolding answer-of words-of

@@ -14,12 +14,11 @@ use Rattle.model.specs.Serve.{judged, serve, after, answers, whole-records, Ran
 use Rattle.model.specs.declared.Answer.{Answer}
 use Rattle.invariants.proofs.Records.{whole, taken-there, serve-front}
 use Rattle.records.specs.declared.Reading.{Reading}
-use Rattle.records.specs.Reading.{reading, taken-of}
+use Rattle.records.specs.Reading.{cut-short, reading, taken-of}
 use Rattle.records.proofs.ThereAndBack.{reading-takes}
-use Rattle.calls.specs.Meets.{Meets}
-use Rattle.calls.proofs.Meeting.{served-is}
-use Rattle.accepted.specs.Ready.{cut-short}
-use Rattle.accepted.proofs.Judging.{short-found}
+use Rattle.rows.specs.Meets.{Meets}
+use Rattle.rows.proofs.Meeting.{served-is}
+use Rattle.reaching.proofs.Judging.{short-found}
 use Rattle.runs.specs.Runs.{told-run}
 use Rattle.runs.specs.Tested.{Tested}
 

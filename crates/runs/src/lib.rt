@@ -7,16 +7,15 @@ ghost use Rattle.model.specs.Answers.{answer-number, number-of, word-number};
 ghost use Rattle.model.specs.Serve.{judged, run};
 ghost use Rattle.model.specs.Sound.{sound};
 ghost use Rattle.model.specs.Words.{unpack};
-ghost use Rattle.records.specs.Reading.{reading};
+ghost use Rattle.records.specs.Reading.{cut-short, reading};
 ghost use Rattle.index.specs.Indexed.{Indexed};
-ghost use Rattle.calls.specs.Meets.{Meets};
-ghost use Rattle.accepted.specs.Ready.{call-in, cut-short, Ready};
+ghost use Rattle.rows.specs.Meets.{Meets};
+ghost use Rattle.reaching.specs.Ready.{call-in, Ready};
 ghost use Rattle.service.specs.Serves.{Serves};
 ghost use Rattle.runs.specs.Runs.{told-run};
 ghost use Rattle.runs.specs.Tested.{Tested, leaves-entries};
-use accepted::is_cut_short;
-use accepted::taken_of;
 use dispatch::dispatch;
+use fields::table::keeps_entries;
 use index::BUCKETS;
 use index::index_entries;
 use model::Answer;
@@ -25,7 +24,9 @@ use model::UNSOUND;
 use model::Verdict;
 use records::Fields;
 use records::Reading;
+use records::is_cut_short;
 use records::read;
+use records::taken_of;
 use rows::ENTRY_ROWS;
 use soundness::sound_and_index;
 
@@ -38,7 +39,10 @@ pub const DONE: u64 = 2;
 
 pub const REFUSED: u64 = 3;
 
-const FIRST_CREATION: u32 = 8;
+// What one is worth in an answer's number: the word stands above the number, the bytes taken above the word.
+const WORD_UNIT: u64 = 1 << 32;
+
+const TAKEN_UNIT: u64 = 1 << 34;
 
 // How many records were served, and how many bytes they are.
 pub struct Run {
@@ -74,7 +78,7 @@ pub fn told(word: u64, number: u64, taken: u64) -> u64
     requires { ⌜ (word < 4) × (number < 4294967296) × (taken < 65536) ⌝ }
     ensures { λ r. ⌜ r ≡ answer-number word number taken ⌝ }
 {
-    taken * 17179869184 + word * 4294967296 + number
+    taken * TAKEN_UNIT + word * WORD_UNIT + number
 }
 
 pub fn told_answer(answer: Answer, taken: u64) -> u64
@@ -153,7 +157,7 @@ fn serve_call(
 fn leaves_entries(call: u32, answer: Answer) -> bool
     ensures { λ r. ⌜ r ≡ leaves-entries call answer ⌝ }
 {
-    if call < FIRST_CREATION {
+    if keeps_entries(call) {
         return true;
     }
     match answer {

@@ -8,18 +8,18 @@ use borrow.Author.Tests.{eq-eqb, ne-eqb, lt-ltb, le-ltb}
 use lib.Dec.{ltb}
 use lib.ListN.{List·getD-eq-default}
 use Rattle.model.specs.Lists.{same, any, first}
-use Rattle.model.specs.Tables.{Place, Entry, Hold, Process, no-entry, no-process, same-place, at, lookup, is-process, listed, user-of}
+use Rattle.model.specs.Tables.{process-rows, Place, Hold, Process, no-process, same-place, is-process, listed, user-of}
 use Rattle.model.specs.Sound.{same-hold}
 use Rattle.model.specs.Words.{unpack}
 use Rattle.laws.proofs.Loops.{find-first, any-first, none-first}
-use Rattle.invariants.proofs.Words.{Name-fits, name-back as name-comes-back}
+use Rattle.laws.proofs.Words.{Name-fits, name-back as name-comes-back}
 use Rattle.rows.specs.declared.Block.{Block}
 use Rattle.rows.specs.declared.HoldRow.{HoldRow}
 use Rattle.rows.specs.Blocks.{name-of, Named, block-of, same-block, place-of}
 use Rattle.rows.specs.Rows.{hold-of}
-use Rattle.rows.specs.Stands.{entry-row, process-row}
+use Rattle.rows.specs.Stands.{process-row}
 use Rattle.rows.proofs.Blocks.{name-back, block-named, same-name-block, same-blocks-same-names}
-use Rattle.rows.proofs.Parts.{processes-full, entries-full}
+use Rattle.rows.proofs.Parts.{processes-full}
 
 -- A PLACE: the directory is compared first, then the block of the name
 
@@ -62,13 +62,13 @@ module _ (h : HoldRow) (x : Hold) where
 
 -- WHAT THE FOUND ROW GIVES
 
-pub listed-by-row : (w : List ℕ) (p : ℕ) {k : ℕ} → k ≡ first (is-process p) 0 (unpack w .processes) → ltb k 64 ≡ listed (unpack w .processes) p
+pub listed-by-row : (w : List ℕ) (p : ℕ) {k : ℕ} → k ≡ first (is-process p) 0 (unpack w .processes) → ltb k process-rows ≡ listed (unpack w .processes) p
 unfolding listed
 listed-by-row w p {k} e = go (any (is-process p) (unpack w .processes)) refl
   where
-    go : (b : Bool) → any (is-process p) (unpack w .processes) ≡ b → ltb k 64 ≡ b
-    go true t = lt-ltb k 64 (omega (arith, any-first (is-process p) (unpack w .processes) t, processes-full w))
-    go false t = le-ltb k 64 (omega (arith, none-first (is-process p) (unpack w .processes) t, processes-full w))
+    go : (b : Bool) → any (is-process p) (unpack w .processes) ≡ b → ltb k process-rows ≡ b
+    go true t = lt-ltb k process-rows (omega (arith, any-first (is-process p) (unpack w .processes) t, processes-full w))
+    go false t = le-ltb k process-rows (omega (arith, none-first (is-process p) (unpack w .processes) t, processes-full w))
 
 pub user-by-row : (w : List ℕ) (p : ℕ) {k u : ℕ} → k ≡ first (is-process p) 0 (unpack w .processes) → u ≡ process-row w k .user
     → u ≡ user-of (unpack w .processes) p
@@ -76,14 +76,6 @@ unfolding user-of
 user-by-row w p e h =
     h ∙ ap (λ n. process-row w n .user) e ∙ ap (λ (x : Process). x .user) (sym (find-first (is-process p) no-process (unpack w .processes)))
 
-pub node-by-row : (w : List ℕ) (q : Place) {k n : ℕ} → k ≡ first (at q) 0 (unpack w .entries) → n ≡ entry-row w k .node → n ≡ lookup (unpack w .entries) q
-unfolding lookup
-node-by-row w q e h =
-    h ∙ ap (λ n. entry-row w n .node) e ∙ ap (λ (x : Entry). x .node) (sym (find-first (at q) no-entry (unpack w .entries)))
-
--- past the last row stands no process and no entry
-pub no-user : (w : List ℕ) (k : ℕ) → 64 ≤ k → 0 ≡ process-row w k .user
+-- past the last row stands no process
+pub no-user : (w : List ℕ) (k : ℕ) → process-rows ≤ k → 0 ≡ process-row w k .user
 no-user w k h = ap (λ (x : Process). x .user) (sym (List·getD-eq-default (unpack w .processes) no-process (omega (arith, processes-full w))))
-
-pub no-node-there : (w : List ℕ) (k : ℕ) → 512 ≤ k → 0 ≡ entry-row w k .node
-no-node-there w k h = ap (λ (x : Entry). x .node) (sym (List·getD-eq-default (unpack w .entries) no-entry (omega (arith, entries-full w))))

@@ -1,1 +1,1 @@
--- No definitions of its own: the contracts cite the model and `rows`.
+pub mod Callers

@@ -3,7 +3,7 @@ ghost use mathlib.Core.Path.{_≡_};
 ghost use mathlib.Core.Option.{some};
 ghost use Prim.Native.Nat.{_<_};
 ghost use Rattle.model.specs.Lists.{any, count, first};
-ghost use Rattle.model.specs.Tables.{at, is-process, listed, user-of, free-entry, free-node, free-hold, free-process};
+ghost use Rattle.model.specs.Tables.{entry-rows, hold-rows, at, is-process, listed, user-of, free-entry, free-node, free-hold, free-process};
 ghost use Rattle.model.specs.Sound.{same-hold};
 ghost use Rattle.model.specs.Holds.{on};
 ghost use Rattle.model.specs.Calls.{has-entries};
@@ -11,6 +11,7 @@ ghost use Rattle.model.specs.Words.{unpack};
 ghost use Rattle.rows.specs.Blocks.{Named, place-of};
 ghost use Rattle.rows.specs.Rows.{hold-of};
 ghost use Rattle.rows.specs.Stands.{Stands, entry-row, hold-row};
+ghost use Rattle.search.specs.Callers.{listing-of};
 use rows::Block;
 use rows::ENTRY_ROWS;
 use rows::HOLD_ROWS;
@@ -28,9 +29,23 @@ use rows::process_number;
 use rows::process_user;
 use rows::same_blocks;
 
+// The user whom no hold keeps out.
+pub const ROOT_USER: u16 = 0;
+
+// What the rules ask of the process that calls: its number and its user.
+pub struct Caller {
+    pub process: u16,
+    pub user: u16,
+}
+
+pub enum Listing {
+    Unlisted,
+    Listed(Caller),
+}
+
 // PROCESSES
 
-// The row of a process, 64 where it is not listed.
+// The row of a process, PROCESS_ROWS where it is not listed.
 fn find_process(words: &[u32], process: u16) -> usize
     requires { ⌜ Stands (now words) ⌝ }
     ensures { λ r. ⌜ r ≡ first (is-process process) 0 (unpack (now (words .entry)) .processes) ⌝ }
@@ -64,10 +79,23 @@ pub fn user_of_process(words: &[u32], process: u16) -> u16
     process_user(words, row)
 }
 
+// The process that calls, its row looked up once.
+pub fn find_caller(words: &[u32], process: u16) -> Listing
+    requires { ⌜ Stands (now words) ⌝ }
+    ensures { λ r. ⌜ r ≡ listing-of (unpack (now (words .entry)) .processes) process ⌝ }
+{
+    let found = find_process(words, process);
+    if found >= PROCESS_ROWS {
+        return Listing::Unlisted;
+    }
+    let user = process_user(words, found);
+    Listing::Listed(Caller { process, user })
+}
+
 // ENTRIES
 
 pub fn entry_is_at(words: &[u32], row: usize, directory: u16, name: Block) -> bool
-    requires { ⌜ (Stands (now words)) × ((row < 512) × (Named name)) ⌝ }
+    requires { ⌜ (Stands (now words)) × ((row < entry-rows) × (Named name)) ⌝ }
     ensures { λ r. ⌜ r ≡ at (place-of directory name) (entry-row (now (words .entry)) row) ⌝ }
 {
     if entry_directory(words, row) != directory {
@@ -95,7 +123,7 @@ pub fn has_any_entry(words: &[u32], directory: u16) -> bool
 
 // Whether the hold of a row is on the place, in either role.
 pub fn hold_is_on(words: &[u32], row: usize, directory: u16, name: Block) -> bool
-    requires { ⌜ (Stands (now words)) × ((row < 256) × (Named name)) ⌝ }
+    requires { ⌜ (Stands (now words)) × ((row < hold-rows) × (Named name)) ⌝ }
     ensures { λ r. ⌜ r ≡ on (some (place-of directory name)) (hold-row (now (words .entry)) row) ⌝ }
 {
     if hold_directory(words, row) != directory {
@@ -106,7 +134,7 @@ pub fn hold_is_on(words: &[u32], row: usize, directory: u16, name: Block) -> boo
 
 // Whether the hold of a row is this one.
 fn hold_is(words: &[u32], row: usize, hold: HoldRow) -> bool
-    requires { ⌜ (Stands (now words)) × ((row < 256) × (Named (hold .name))) ⌝ }
+    requires { ⌜ (Stands (now words)) × ((row < hold-rows) × (Named (hold .name))) ⌝ }
     ensures { λ r. ⌜ r ≡ same-hold (hold-of hold) (hold-row (now (words .entry)) row) ⌝ }
 {
     if hold.process != hold_process(words, row) {

@@ -2,10 +2,8 @@
 ghost use mathlib.Core.Path.{_≡_};
 ghost use Rattle.model.specs.Serve.{judged};
 ghost use Rattle.records.specs.Reading.{reading};
-ghost use Rattle.calls.specs.Meets.{Meets};
+ghost use Rattle.rows.specs.Meets.{Meets};
 ghost use Rattle.service.specs.Serves.{Serves};
-use accepted::is_cut_short;
-use accepted::taken_of;
 use dispatch::dispatch;
 use index::BUCKETS;
 use model::Answer;
@@ -13,7 +11,9 @@ use model::SHORT_RECORD;
 use model::UNSOUND;
 use model::Verdict;
 use records::Reading;
+use records::is_cut_short;
 use records::read;
+use records::taken_of;
 use rows::ENTRY_ROWS;
 use soundness::sound_and_index;
 

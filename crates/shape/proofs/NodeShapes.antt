@@ -10,28 +10,20 @@ use lib.Dec.{eqb, leb}
 use lib.ListN.{length, getD, take, drop, replicate, length-take, length-drop, drop-of-length-le}
 use lib.Seq.{length-take-le, getD-take, getD-drop}
 use Rattle.model.specs.Lists.{same, empty, all, filled}
-use Rattle.model.specs.Paths.{valid-target}
+use Rattle.model.specs.Paths.{longest-target, valid-target}
 use Rattle.model.specs.Tables.{Node, no-node, free-node}
-use Rattle.model.specs.Words.{bits, words, bytes, pack-node, unpack-node}
+use Rattle.model.specs.Words.{node-words, bits, words, bytes, pack-node, unpack-node}
 use Rattle.model.specs.Sound.{target-fits}
-use Rattle.laws.proofs.Bools.{and-false, and-left, and-right, both, is-false, and-true, and-joins}
+use Rattle.laws.proofs.Bools.{and-false, and-left, and-right, both, is-false, and-true, and-joins, stopped}
 use Rattle.laws.proofs.Each.{Each, each-take, each-by-place}
 use Rattle.laws.proofs.Loops.{rest-at}
 use Rattle.laws.proofs.Pieces.{Word, bits-within, bits-join, bits-whole, same-equal, equal-same, bytes-length, bytes-are-bytes, bytes-of-words, words-of-bytes, filled-length, filled-bytes}
+use Rattle.rows.specs.Blocks.{target-words}
 use Rattle.rows.proofs.Blocks.{same-when}
 use Rattle.shape.specs.Shaped.{node-shaped, zeros, link-fits}
-use Rattle.shape.proofs.RowShapes.{first-word}
+use Rattle.shape.proofs.RowShapes.{first-word, zeros-same}
 
 -- ZEROS BEHIND A TARGET
-
-zeros-same : (ts : List ℕ) → zeros ts ≡ same ts (replicate (length ts) 0)
-unfolding zeros all same
-zeros-same [] = refl
-zeros-same (t ∷ ts) = go (eqb t 0) (zeros-same ts)
-  where
-    go : (b : Bool) → zeros ts ≡ same ts (replicate (length ts) 0) → (b && zeros ts) ≡ elim b as (λ _. Bool) [ true ↦ same ts (replicate (length ts) 0) | false ↦ false ]
-    go true e = e
-    go false e = refl
 
 -- numbers joined bit by bit are 0 where both are
 joined-zero : (a b : ℕ) → eqb (bitOr a b) 0 ≡ (eqb a 0 && eqb b 0)
@@ -46,27 +38,27 @@ joined-zero a b =
     eq-eqb (bitOr a b) 0 (omega arith))
 
 -- what is joined so far and what is left are zeros where the whole is
-module _ (w : List ℕ) (at : ℕ) (inside : at + 16 ≤ length w) where
-  abbrev sixteen : List ℕ
-  sixteen = take 16 (drop at w)
+module _ (w : List ℕ) (at : ℕ) (inside : at + target-words ≤ length w) where
+  abbrev room : List ℕ
+  room = take target-words (drop at w)
 
-  sixteen-long : length sixteen ≡ 16
-  sixteen-long = length-take-le 16 (drop at w) (omega (arith, length-drop at w))
+  room-long : length room ≡ target-words
+  room-long = length-take-le target-words (drop at w) (omega (arith, length-drop at w))
 
-  pub zeros-onward : (joined : ℕ) {k : ℕ} → k < 16 → (eqb joined 0 && zeros (drop k sixteen)) ≡ zeros sixteen
-      → (eqb (bitOr joined (getD w (at + k) 0)) 0 && zeros (drop (k + 1) sixteen)) ≡ zeros sixteen
+  pub zeros-onward : (joined : ℕ) {k : ℕ} → k < target-words → (eqb joined 0 && zeros (drop k room)) ≡ zeros room
+      → (eqb (bitOr joined (getD w (at + k) 0)) 0 && zeros (drop (k + 1) room)) ≡ zeros room
   unfolding zeros all
   zeros-onward joined {k} h e =
-      let x : getD sixteen k 0 ≡ getD w (at + k) 0 = getD-take 16 (drop at w) k 0 h ∙ getD-drop at w k 0 in
-      ap (λ b. b && zeros (drop (k + 1) sixteen)) (joined-zero joined (getD w (at + k) 0))
-      ∙ sym (and-joins (eqb joined 0) (eqb (getD w (at + k) 0) 0) (zeros (drop (k + 1) sixteen)))
-      ∙ ap (λ y. eqb joined 0 && (eqb y 0 && zeros (drop (k + 1) sixteen))) (sym x)
-      ∙ ap (λ l. eqb joined 0 && zeros l) (sym (rest-at 0 sixteen k (omega (arith, sixteen-long)))) ∙ e
+      let x : getD room k 0 ≡ getD w (at + k) 0 = getD-take target-words (drop at w) k 0 h ∙ getD-drop at w k 0 in
+      ap (λ b. b && zeros (drop (k + 1) room)) (joined-zero joined (getD w (at + k) 0))
+      ∙ sym (and-joins (eqb joined 0) (eqb (getD w (at + k) 0) 0) (zeros (drop (k + 1) room)))
+      ∙ ap (λ y. eqb joined 0 && (eqb y 0 && zeros (drop (k + 1) room))) (sym x)
+      ∙ ap (λ l. eqb joined 0 && zeros l) (sym (rest-at 0 room k (omega (arith, room-long)))) ∙ e
 
-  pub zeros-done : (joined : ℕ) {k : ℕ} → 16 ≤ k → (eqb joined 0 && zeros (drop k sixteen)) ≡ zeros sixteen → eqb joined 0 ≡ zeros sixteen
+  pub zeros-done : (joined : ℕ) {k : ℕ} → target-words ≤ k → (eqb joined 0 && zeros (drop k room)) ≡ zeros room → eqb joined 0 ≡ zeros room
   unfolding zeros all
   zeros-done joined {k} h e =
-      sym (and-true (eqb joined 0)) ∙ ap (λ l. eqb joined 0 && zeros l) (sym (drop-of-length-le sixteen {i = k} (omega (arith, sixteen-long)))) ∙ e
+      sym (and-true (eqb joined 0)) ∙ ap (λ l. eqb joined 0 && zeros l) (sym (drop-of-length-le room {i = k} (omega (arith, room-long)))) ∙ e
 
 filled-zeros : (t : List ℕ) (m k : ℕ) → zeros (drop (length t) (take m (t ++ replicate k 0))) ≡ true
 unfolding zeros all
@@ -92,7 +84,7 @@ some-taken (suc n) [] m h = absurd (omega arith)
 some-taken (suc n) (x ∷ s) m h = refl
 
 -- a field between two others
-middle-field : (h k l c : ℕ) → h ≡ k * 1073741824 + l * 8388608 + c * 8192 → l ≤ 64 → c < 1024 → l ≡ h / 8388608 % 128
+middle-field : (h k l c : ℕ) → h ≡ k * 1073741824 + l * 8388608 + c * 8192 → l ≤ longest-target → c < 1024 → l ≡ h / 8388608 % 128
 middle-field h k l c e m n = omega arith
 
 lowest-bits : (h : ℕ) → h % 8192 ≡ 0 → bits 0 13 h ≡ 0
@@ -100,7 +92,7 @@ unfolding bits
 lowest-bits h low = omega arith
 
 -- the fields of a node's first word make it up
-fields-whole : (h : ℕ) → h < 4294967296 → h % 8192 ≡ 0 → h ≡ bits 30 2 h * 1073741824 + bits 23 7 h * 8388608 + bits 13 10 h * 8192
+fields-whole : (h : ℕ) → Word h → h % 8192 ≡ 0 → h ≡ bits 30 2 h * 1073741824 + bits 23 7 h * 8388608 + bits 13 10 h * 8192
 fields-whole h small low =
     let a : bits 30 2 h * 128 + bits 23 7 h ≡ bits 23 9 h = bits-join 23 2 7 h in
     let b : bits 23 9 h * 1024 + bits 13 10 h ≡ bits 13 19 h = bits-join 13 9 10 h in
@@ -109,147 +101,168 @@ fields-whole h small low =
     let e : bits 0 13 h ≡ 0 = lowest-bits h low in
     omega arith
 
--- A NODE'S WORDS: its first, and those of its target
+-- A NODE THAT WAS READ: its first word, those of its target, and its kind
 
-module _ (h : ℕ) (ts : List ℕ) (small : h < 4294967296) (sixteen : length ts ≡ 16) where
+pub record Node-read (ws : List ℕ) (h : ℕ) (ts : List ℕ) (kind : ℕ) : Type 0 where
+  pub words : h ∷ ts ≡ ws
+  pub small : Word h
+  pub others : Each Word ts
+  pub long : length ts ≡ target-words
+  pub top : kind ≡ h / 1073741824
+
+pub node-read : (w : List ℕ) (at : ℕ) → at + node-words ≤ length w → ((i : ℕ) → Word (getD w i 0)) → {kind : ℕ} → kind ≡ getD w at 0 / 1073741824
+    → Node-read (take node-words (drop at w)) (getD w at 0) (take target-words (drop (at + 1) w)) kind
+node-read w at inside small top =
+    let ts = take target-words (drop (at + 1) w) in
+    let long : length ts ≡ target-words = length-take-le target-words (drop (at + 1) w) (omega (arith, length-drop (at + 1) w)) in
+    record {
+      words = sym (first-word target-words at w (omega arith));
+      small = small at;
+      others = each-by-place ts 0 (λ i l.
+          let e : getD ts i 0 ≡ getD w (at + 1 + i) 0 = getD-take target-words (drop (at + 1) w) i 0 (omega arith) ∙ getD-drop (at + 1) w i 0 in
+          omega (arith, small (at + 1 + i)));
+      long = long;
+      top = top;
+    }
+
+module _ {ws : List ℕ} {h : ℕ} {ts : List ℕ} {kind : ℕ} (read : Node-read ws h ts kind) where
   shaped-node : Node → Bool
   shaped-node x = same (h ∷ ts) (pack-node x) && (free-node x || target-fits x)
 
-  kind-bits : bits 30 2 h ≡ h / 1073741824
+  kind-bits : bits 30 2 h ≡ kind
   unfolding bits
-  kind-bits = omega arith
+  kind-bits = let s = read .small in let t = read .top in omega arith
+
+  abbrev no-words : List ℕ
+  no-words = replicate target-words 0
+
+  blank-target : zeros ts ≡ same ts no-words
+  blank-target = zeros-same ts ∙ ap (λ n. same ts (replicate n 0)) (read .long)
 
   -- a free row
-  module _ (free : h / 1073741824 ≡ 0) where
-    free-shape : node-shaped (h ∷ ts) ≡ (same (h ∷ ts) (0 ∷ replicate 16 0) && true)
+  module _ (free : kind ≡ 0) where
+    free-shape : same (h ∷ ts) (0 ∷ no-words) ≡ node-shaped ws
     unfolding node-shaped shaped-node unpack-node pack-node free-node
     free-shape =
         let u : unpack-node (h ∷ ts) ≡ no-node = simp (kind-bits ∙ free, unpack-node) in
-        ap shaped-node u
+        sym (ap shaped-node u ∙ and-true (same (h ∷ ts) (0 ∷ no-words))) ∙ ap node-shaped (read .words)
 
-    pub free-not-zero : (h ≡ 0 → ⊥) → false ≡ node-shaped (h ∷ ts)
-    free-not-zero n = sym (is-false (node-shaped (h ∷ ts)) (λ t. n (ap (λ l. getD l 0 0) (same-equal (h ∷ ts) (0 ∷ replicate 16 0) (and-left _ true (sym free-shape ∙ t))))))
+    pub free-dirty : (h ≡ 0 → ⊥) → false ≡ node-shaped ws
+    free-dirty n =
+        sym (is-false (same (h ∷ ts) (0 ∷ no-words)) (λ t. n (ap (λ l. getD l 0 0) (same-equal (h ∷ ts) (0 ∷ no-words) t)))) ∙ free-shape
 
-    pub free-zeros : h ≡ 0 → zeros ts ≡ node-shaped (h ∷ ts)
+    pub free-clean : h ≡ 0 → zeros ts ≡ node-shaped ws
     unfolding same
-    free-zeros z =
-        let front : same (h ∷ ts) (0 ∷ replicate 16 0) ≡ same ts (replicate 16 0) = simp (eq-eqb h 0 z, same) in
-        zeros-same ts ∙ ap (λ n. same ts (replicate n 0)) sixteen ∙ sym (free-shape ∙ ap (λ b. b && true) front ∙ and-true (same ts (replicate 16 0)))
+    free-clean z =
+        let front : same (h ∷ ts) (0 ∷ no-words) ≡ same ts no-words = simp (eq-eqb h 0 z, same) in
+        blank-target ∙ sym front ∙ free-shape
 
-  module _ (used : h / 1073741824 ≡ 0 → ⊥) where
-    abbrev read : Node
-    read = record { kind = bits 30 2 h; count = bits 13 10 h; target = take (bits 23 7 h) (bytes ts) }
+  module _ (used : kind ≡ 0 → ⊥) where
+    -- what it holds, and the words that this is written as
+    abbrev target : List ℕ
+    target = take (bits 23 7 h) (bytes ts)
 
-    abbrev written : List ℕ
-    written = (bits 30 2 h * 1073741824 + length (take (bits 23 7 h) (bytes ts)) * 8388608 + bits 13 10 h * 8192) ∷ words (filled 64 (take (bits 23 7 h) (bytes ts)))
+    abbrev node-in : Node
+    node-in = record { kind = bits 30 2 h; count = bits 13 10 h; target = target }
 
-    not-free : eqb (bits 30 2 h) 0 ≡ false
-    not-free = ne-eqb (bits 30 2 h) 0 (λ z. used (sym kind-bits ∙ z))
+    abbrev head-again : ℕ → ℕ
+    head-again n = bits 30 2 h * 1073741824 + n * 8388608 + bits 13 10 h * 8192
 
-    used-shape : node-shaped (h ∷ ts) ≡ (same (h ∷ ts) written && target-fits read)
+    abbrev again : List ℕ
+    again = head-again (length target) ∷ words (filled longest-target target)
+
+    used-shape : (same (h ∷ ts) again && target-fits node-in) ≡ node-shaped ws
     unfolding node-shaped shaped-node unpack-node pack-node free-node
     used-shape =
-        let u : unpack-node (h ∷ ts) ≡ read = simp (not-free, unpack-node) in
-        let p : pack-node read ≡ written = simp (not-free, pack-node) in
-        let f : (free-node read || target-fits read) ≡ target-fits read = rw not-free in
-        ap shaped-node u ∙ ap₂ _&&_ (ap (same (h ∷ ts)) p) f
+        let n = ne-eqb (bits 30 2 h) 0 (λ z. used (sym kind-bits ∙ z)) in
+        let u : unpack-node (h ∷ ts) ≡ node-in = simp (n, unpack-node) in
+        let p : pack-node node-in ≡ again = simp (n, pack-node) in
+        let f : (free-node node-in || target-fits node-in) ≡ target-fits node-in = rw n in
+        sym (ap shaped-node u ∙ ap₂ _&&_ (ap (same (h ∷ ts)) p) f) ∙ ap node-shaped (read .words)
 
-    head-fields : same (h ∷ ts) written ≡ true → h ≡ bits 30 2 h * 1073741824 + length (take (bits 23 7 h) (bytes ts)) * 8388608 + bits 13 10 h * 8192
-    head-fields e = ap (λ l. getD l 0 0) (same-equal (h ∷ ts) written e)
+    head-fields : same (h ∷ ts) again ≡ true → h ≡ head-again (length target)
+    head-fields e = ap (λ l. getD l 0 0) (same-equal (h ∷ ts) again e)
 
-    pub bits-below : (h % 8192 ≡ 0 → ⊥) → false ≡ node-shaped (h ∷ ts)
-    bits-below n = sym (is-false (node-shaped (h ∷ ts)) (λ t. n (let e = head-fields (and-left _ (target-fits read) (sym used-shape ∙ t)) in omega arith)))
+    bytes-long : length (bytes ts) ≡ longest-target
+    bytes-long = bytes-length ts ∙ ap (λ n. n * 4) (read .long)
 
-    abbrev count : ℕ
-    count = h / 8388608 % 128
+    target-length : length target ≤ longest-target
+    target-length = simp (length-take) (omega (arith, bytes-long))
 
-    count-bits : bits 23 7 h ≡ count
-    unfolding bits
-    count-bits = refl
+    pub low-bits : (h % 8192 ≡ 0 → ⊥) → false ≡ node-shaped ws
+    low-bits n = stopped (target-fits node-in) (is-false (same (h ∷ ts) again) (λ t. n (let e = head-fields t in omega arith))) ∙ used-shape
 
-    -- no target
-    module _ (plain : h / 1073741824 ≡ 3 → ⊥) where
-      plain-target : target-fits read ≡ empty (take (bits 23 7 h) (bytes ts))
-      unfolding target-fits
-      plain-target = simp (ne-eqb (bits 30 2 h) 3 (λ z. plain (sym kind-bits ∙ z)), target-fits)
+    module _ (low : h % 8192 ≡ 0) {size : ℕ} (sized : size ≡ h / 8388608 % 128) where
+      size-bits : bits 23 7 h ≡ size
+      unfolding bits
+      size-bits = sym sized
 
-      pub target-there : (count ≡ 0 → ⊥) → false ≡ node-shaped (h ∷ ts)
-      target-there n =
-          sym (used-shape ∙ and-false (same (h ∷ ts) written) (target-fits read)
-          (λ _. plain-target ∙ some-taken (bits 23 7 h) (bytes ts) (λ z. n (sym count-bits ∙ z)) (omega (arith, bytes-length ts))))
+      link-words : same (h ∷ ts) again ≡ (leb size longest-target && zeros (drop size (bytes ts)))
+      unfolding filled
+      link-words =
+          same-when (same (h ∷ ts) again) (leb size longest-target && zeros (drop size (bytes ts)))
+          (λ e. let c : length target ≡ size
+          = middle-field h (bits 30 2 h) (length target) (bits 13 10 h) (head-fields e) target-length (bits-within 13 10 h) ∙ sym sized in
+          let f : filled longest-target target ≡ bytes ts
+          = sym (bytes-of-words target-words (filled longest-target target) (filled-length longest-target target)
+          (filled-bytes longest-target (each-take (bits 23 7 h) (bytes-are-bytes ts)))) ∙ ap (λ l. bytes (drop 1 l)) (sym (same-equal (h ∷ ts) again e)) in
+          both (le-leb size longest-target (omega (arith, target-length)))
+          (ap₂ (λ n s. zeros (drop n s)) (sym c) (sym f) ∙ filled-zeros target longest-target longest-target))
+          (λ e. let l = leb-true size longest-target (and-left (leb size longest-target) _ e) in
+          let z = and-right (leb size longest-target) (zeros (drop size (bytes ts))) e in
+          let c : length target ≡ bits 23 7 h = length-take-le (bits 23 7 h) (bytes ts) (omega (arith, bytes-long, size-bits)) in
+          let f : filled longest-target target ≡ bytes ts
+          = ap (λ m. take m (target ++ replicate longest-target 0)) (sym bytes-long)
+          ∙ zeros-filled (bits 23 7 h) (bytes ts) longest-target (omega (arith, bytes-long, size-bits)) (omega (arith, bytes-long))
+          (ap (λ n. zeros (drop n (bytes ts))) size-bits ∙ z) in
+          equal-same (ap₂ _∷_ (fields-whole h (read .small) low ∙ ap head-again (sym c)) (sym (ap words f ∙ words-of-bytes (read .others)))))
 
-      pub plain-zeros : h % 8192 ≡ 0 → count ≡ 0 → zeros ts ≡ node-shaped (h ∷ ts)
-      unfolding same empty words filled bits
-      plain-zeros low none =
-          let t : take (bits 23 7 h) (bytes ts) ≡ [] = ap (λ n. take n (bytes ts)) (count-bits ∙ none) in
-          let k : bits 30 2 h * 1073741824 + 0 * 8388608 + bits 13 10 h * 8192 ≡ h = omega arith in
-          let w : written ≡ h ∷ replicate 16 0
-          = ap (λ (s : List ℕ). (bits 30 2 h * 1073741824 + length s * 8388608 + bits 13 10 h * 8192) ∷ words (filled 64 s)) t ∙ ap (λ n. n ∷ replicate 16 0) k in
-          let front : same (h ∷ ts) (h ∷ replicate 16 0) ≡ same ts (replicate 16 0) = simp (eq-eqb h h refl, same) in
-          zeros-same ts ∙ ap (λ n. same ts (replicate n 0)) sixteen
-          ∙ sym (used-shape ∙ ap₂ _&&_ (ap (same (h ∷ ts)) w ∙ front) (plain-target ∙ ap empty t) ∙ and-true (same ts (replicate 16 0)))
+      pub link-read : kind ≡ 3 → link-fits (bytes ts) size ≡ node-shaped ws
+      unfolding link-fits target-fits
+      link-read k =
+          let t : target-fits node-in ≡ valid-target (take size (bytes ts))
+          = simp (eq-eqb (bits 30 2 h) 3 (kind-bits ∙ k), target-fits) (ap (λ n. valid-target (take n (bytes ts))) size-bits) in
+          and-joins (leb size longest-target) (zeros (drop size (bytes ts))) (valid-target (take size (bytes ts)))
+          ∙ sym (ap₂ _&&_ link-words t) ∙ used-shape
 
-    -- a link
-    link-target : h / 1073741824 ≡ 3 → target-fits read ≡ valid-target (take count (bytes ts))
-    unfolding target-fits
-    link-target three = simp (eq-eqb (bits 30 2 h) 3 (kind-bits ∙ three), target-fits) (ap (λ n. valid-target (take n (bytes ts))) count-bits)
+      -- no link, and so no target
+      module _ (plain : kind ≡ 3 → ⊥) where
+        plain-target : target-fits node-in ≡ empty target
+        unfolding target-fits
+        plain-target = simp (ne-eqb (bits 30 2 h) 3 (λ z. plain (sym kind-bits ∙ z)), target-fits)
 
-    target-length : length (take (bits 23 7 h) (bytes ts)) ≤ 64
-    target-length = simp (length-take) (omega (arith, bytes-length ts))
+        pub plain-dirty : (size ≡ 0 → ⊥) → false ≡ node-shaped ws
+        plain-dirty n =
+            sym (and-false (same (h ∷ ts) again) (target-fits node-in)
+            (λ _. plain-target ∙ some-taken (bits 23 7 h) (bytes ts) (λ z. n (sym size-bits ∙ z)) (omega (arith, bytes-long)))) ∙ used-shape
 
-    link-words : Each Word ts → h % 8192 ≡ 0 → same (h ∷ ts) written ≡ (leb count 64 && zeros (drop count (bytes ts)))
-    unfolding bits filled
-    link-words words-small low =
-        same-when (same (h ∷ ts) written) (leb count 64 && zeros (drop count (bytes ts)))
-        (λ e. let k = head-fields e in
-        let c : length (take (bits 23 7 h) (bytes ts)) ≡ count
-        = middle-field h (bits 30 2 h) (length (take (bits 23 7 h) (bytes ts))) (bits 13 10 h) k target-length (bits-within 13 10 h) in
-        let f : filled 64 (take (bits 23 7 h) (bytes ts)) ≡ bytes ts
-        = sym (bytes-of-words 16 (filled 64 (take (bits 23 7 h) (bytes ts))) (filled-length 64 (take (bits 23 7 h) (bytes ts)))
-        (filled-bytes 64 (each-take (bits 23 7 h) (bytes-are-bytes ts)))) ∙ ap (λ l. bytes (drop 1 l)) (sym (same-equal (h ∷ ts) written e)) in
-        both (le-leb count 64 (omega (arith, target-length)))
-        (ap₂ (λ n s. zeros (drop n s)) (sym c) (sym f) ∙ filled-zeros (take (bits 23 7 h) (bytes ts)) 64 64))
-        (λ e. let l = leb-true count 64 (and-left (leb count 64) _ e) in
-        let c : length (take (bits 23 7 h) (bytes ts)) ≡ count = length-take-le (bits 23 7 h) (bytes ts) (omega (arith, bytes-length ts)) in
-        let f : filled 64 (take (bits 23 7 h) (bytes ts)) ≡ bytes ts
-        = ap (λ m. take m (take (bits 23 7 h) (bytes ts) ++ replicate 64 0)) (sym (bytes-length ts ∙ ap (λ n. n * 4) sixteen))
-        ∙ zeros-filled (bits 23 7 h) (bytes ts) 64 (omega (arith, bytes-length ts)) (omega (arith, bytes-length ts)) (and-right (leb count 64) (zeros (drop count (bytes ts))) e) in
-        let k : h ≡ bits 30 2 h * 1073741824 + length (take (bits 23 7 h) (bytes ts)) * 8388608 + bits 13 10 h * 8192
-        = fields-whole h small low ∙ ap (λ n. bits 30 2 h * 1073741824 + n * 8388608 + bits 13 10 h * 8192) (sym (c ∙ sym count-bits)) in
-        equal-same (ap₂ _∷_ k (sym (ap words f ∙ words-of-bytes words-small))))
-
-    pub link-is : Each Word ts → h / 1073741824 ≡ 3 → h % 8192 ≡ 0 → link-fits (bytes ts) count ≡ node-shaped (h ∷ ts)
-    unfolding link-fits
-    link-is words-small three low =
-        and-joins (leb count 64) (zeros (drop count (bytes ts))) (valid-target (take count (bytes ts)))
-        ∙ sym (used-shape ∙ ap₂ _&&_ (link-words words-small low) (link-target three))
+        pub plain-clean : size ≡ 0 → zeros ts ≡ node-shaped ws
+        unfolding same empty words filled bits
+        plain-clean z =
+            let t : target ≡ [] = ap (λ n. take n (bytes ts)) (size-bits ∙ z) in
+            let k : head-again 0 ≡ h = let s = read .small in omega arith in
+            let w : again ≡ h ∷ no-words
+            = ap (λ (s : List ℕ). head-again (length s) ∷ words (filled longest-target s)) t ∙ ap (λ n. n ∷ no-words) k in
+            let front : same (h ∷ ts) (h ∷ no-words) ≡ same ts no-words = simp (eq-eqb h h refl, same) in
+            blank-target
+            ∙ sym (ap₂ _&&_ (ap (same (h ∷ ts)) w ∙ front) (plain-target ∙ ap empty t) ∙ and-true (same ts no-words)) ∙ used-shape
 
 -- A LINK'S BYTES
 
 module _ {s t : List ℕ} (e : t ≡ s) (n : ℕ) where
-  pub link-long : 64 < n → false ≡ link-fits s n
+  pub link-long : longest-target < n → false ≡ link-fits s n
   unfolding link-fits
-  link-long h = rw (lt-leb n 64 h)
+  link-long h = rw (lt-leb n longest-target h)
 
-  pub link-dirty : n ≤ 64 → zeros (drop n t) ≡ false → false ≡ link-fits s n
+  pub link-dirty : n ≤ longest-target → zeros (drop n t) ≡ false → false ≡ link-fits s n
   unfolding link-fits
-  link-dirty h z = rw (← e, le-leb n 64 h, z)
+  link-dirty h z = rw (← e, le-leb n longest-target h, z)
 
-  pub link-clean : n ≤ 64 → zeros (drop n t) ≡ true → {r : Bool} → r ≡ valid-target (take n t) → r ≡ link-fits s n
+  pub link-clean : n ≤ longest-target → zeros (drop n t) ≡ true → {r : Bool} → r ≡ valid-target (take n t) → r ≡ link-fits s n
   unfolding link-fits
-  link-clean h z f = rw (← e, le-leb n 64 h, z) f
+  link-clean h z f = rw (← e, le-leb n longest-target h, z) f
 
--- A NODE IN THE SLICE
-
-module _ (w : List ℕ) (at : ℕ) (inside : at + 17 ≤ length w) where
-  pub node-list : getD w at 0 ∷ take 16 (drop (at + 1) w) ≡ take 17 (drop at w)
-  node-list = sym (first-word 16 at w (omega arith))
-
-  pub target-words : length (take 16 (drop (at + 1) w)) ≡ 16
-  target-words = length-take-le 16 (drop (at + 1) w) (omega (arith, length-drop (at + 1) w))
-
-  pub target-small : ((i : ℕ) → getD w i 0 < 4294967296) → Each Word (take 16 (drop (at + 1) w))
-  target-small h =
-      each-by-place (take 16 (drop (at + 1) w)) 0 (λ i l.
-      let e : getD (take 16 (drop (at + 1) w)) i 0 ≡ getD w (at + 1 + i) 0 = getD-take 16 (drop (at + 1) w) i 0 (omega (arith, target-words)) ∙ getD-drop (at + 1) w i 0 in
-      omega (arith, h (at + 1 + i)))
+-- the bytes of a target's words
+pub target-bytes : (w : List ℕ) (at : ℕ) → at + target-words ≤ length w → length (bytes (take target-words (drop at w))) ≡ longest-target
+target-bytes w at h =
+    bytes-length (take target-words (drop at w)) ∙ ap (λ n. n * 4) (length-take-le target-words (drop at w) (omega (arith, length-drop at w)))

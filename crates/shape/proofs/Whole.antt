@@ -1,89 +1,79 @@
 -- The rows of all tables tested are the tables tested. Assumes nothing.
-use mathlib.Core.Path.{_≡_, sym, ap, ap₂, _∙_}
+use mathlib.Core.Path.{_≡_, refl, sym, ap, ap₂, _∙_}
 use mathlib.Core.Bool.{Bool, true, false, _&&_, _||_}
-use mathlib.Core.List.{List, [], _∷_}
+use mathlib.Core.List.{List, [], map}
 use Prim.Native.Nat.{ℕ, zero, suc, _+_, _*_, _≤_, _<_}
 use native.Mathlib.Omega.{arith}
 use borrow.Rule.Slice.PartMut.{midOf}
-use lib.ListN.{length, getD, take, drop, length-drop}
-use lib.Seq.{drop-drop}
+use lib.ListN.{length, getD, drop, length-drop}
 use Rattle.model.specs.Lists.{same, all, pieces}
 use Rattle.model.specs.Paths.{valid-name}
-use Rattle.model.specs.Tables.{free-entry, free-node, free-hold}
-use Rattle.model.specs.Words.{pack-entry, unpack-entry, pack-node, unpack-node, pack-hold, unpack-hold, pack-process, unpack-process, pack, unpack}
+use Rattle.model.specs.Tables.{free-entry, free-node, free-hold, entry-rows, node-rows, hold-rows, process-rows}
+use Rattle.model.specs.Words.{entry-words, node-words, hold-words, process-words, first-node-word, first-hold-word, first-process-word, word-count, pack-entry, unpack-entry, pack-node, unpack-node, pack-hold, unpack-hold, pack-process, unpack-process, pack, unpack}
 use Rattle.model.specs.Sound.{each-used, exact, names-valid, roles-valid, targets-valid, target-fits}
-use Rattle.laws.proofs.AllRows.{all-both, all-alike}
-use Rattle.laws.proofs.AllRows.{all-map}
-use Rattle.laws.proofs.Bools.{or-and}
-use Rattle.laws.proofs.Bools.{and-left, and-right, both, is-false}
+use Rattle.laws.proofs.AllRows.{all-both, all-alike, all-map}
+use Rattle.laws.proofs.Bools.{and-left, and-right, and-true, and-middle, both, is-false, or-and}
 use Rattle.laws.proofs.Each.{Each, none, one, each-by-place, each-passes, passes-each}
 use Rattle.laws.proofs.Pieces.{same-equal, equal-same, pieces-length}
 use Rattle.laws.proofs.RowWords.{piece-at, pieces-take, Just-rows, just-rows, exact-row}
-use Rattle.invariants.proofs.Words.{entry-wide, node-wide, hold-wide, process-wide, packed-length, unpacked-fits}
+use Rattle.laws.proofs.Words.{entry-wide, node-wide, hold-wide, process-wide, packed-length, unpacked-fits}
 use Rattle.rows.proofs.Blocks.{same-when}
-use Rattle.rows.proofs.Parts.{mid-long, parts-stand, stands-parts}
-use Rattle.shape.specs.Shaped.{entry-shaped, node-shaped, hold-shaped, process-shaped, role-valid, shaped}
-use Rattle.shape.proofs.RowShapes.{first-word}
+use Rattle.rows.proofs.Parts.{mid-long, nothing-behind, parts-stand, stands-parts}
+use Rattle.shape.specs.Shaped.{entry-pieces, node-pieces, hold-pieces, process-pieces, entry-shaped, node-shaped, hold-shaped, process-shaped, role-valid, shaped}
 
-pub row-piece : (k n a : ℕ) (w : List ℕ) (row : ℕ) → row < n → getD (pieces n k (drop a w)) row [] ≡ take k (drop (a + row * k) w)
-row-piece k n a w row r = piece-at k n (drop a w) row [] r ∙ ap (take k) (drop-drop (row * k) a w)
+-- TESTS OF ALL ROWS, whatever table they are of: u reads a row, f writes it
 
-pub entry-piece : (w : List ℕ) (row : ℕ) → row < 512 → getD (pieces 512 5 w) row [] ≡ take 5 (drop (row * 5) w)
-entry-piece w row r = piece-at 5 512 w row [] r
-
-pub process-piece : (w : List ℕ) (row : ℕ) → length w ≡ 8512 → row < 64 → getD (pieces 64 1 (drop 8448 w)) row [] ≡ getD w (8448 + row) 0 ∷ []
-process-piece w row l r =
-    let n : 8448 + row * 1 ≡ 8448 + row = omega arith in
-    row-piece 1 64 8448 w row r ∙ ap (λ m. take 1 (drop m w)) n ∙ first-word 0 (8448 + row) w (omega arith)
-
--- TESTS OF ALL ROWS
-
--- a part is just its rows where the words of each row are
-module _ {A : Type 0} (u : List ℕ → A) (f : A → List ℕ) (n k : ℕ) (wide : (x : A) → length (f x) ≡ k) (a : ℕ) (w : List ℕ) (h : a + n * k ≤ length w) where
+module _ {A : Type 0} (u : List ℕ → A) (f : A → List ℕ) where
+  -- the words are just those of the row that they hold
   abbrev exact-words : List ℕ → Bool
   exact-words ws = same ws (f (u ws))
 
-  part-pieces : pieces n k (midOf a (n * k) w) ≡ pieces n k (drop a w)
-  part-pieces = pieces-take k n (drop a w) (omega (arith, length-drop a w))
+  -- each row's words are its own and the row is valid
+  rows-split : (valid : A → Bool) (ps : List (List ℕ)) → all (λ ws. exact-words ws && valid (u ws)) ps ≡ (all exact-words ps && all valid (map u ps))
+  rows-split valid ps = all-both exact-words (λ ws. valid (u ws)) ps ∙ ap (λ b. all exact-words ps && b) (sym (all-map u valid ps))
 
-  pub rows-exact : all exact-words (pieces n k (drop a w)) ≡ true → Just-rows u f n k (midOf a (n * k) w)
-  rows-exact e =
-      just-rows u f k n (midOf a (n * k) w) (mid-long a (n * k) w h) (λ row r.
-      let q : exact-words (getD (pieces n k (midOf a (n * k) w)) row []) ≡ true
-      = each-row (passes-each exact-words (pieces n k (midOf a (n * k) w)) (ap (all exact-words) part-pieces ∙ e)) row r in
-      let p = piece-at k n (midOf a (n * k) w) row [] r in
-      sym (same-equal _ _ (ap exact-words (sym p) ∙ q)))
-    where
-      at-place : {ps : List (List ℕ)} → Each (λ ws. exact-words ws ≡ true) ps → (i : ℕ) → i < length ps → exact-words (getD ps i []) ≡ true
-      at-place none i l = absurd (omega arith)
-      at-place (one p ps) zero l = p
-      at-place (one p ps) (suc i) l = at-place ps i (omega arith)
+  -- a part is just its rows where the words of each row are
+  module _ (n k : ℕ) (wide : (x : A) → length (f x) ≡ k) (a : ℕ) (w : List ℕ) (h : a + n * k ≤ length w) where
+    abbrev part : List ℕ
+    part = midOf a (n * k) w
 
-      each-row : Each (λ ws. exact-words ws ≡ true) (pieces n k (midOf a (n * k) w)) → (row : ℕ) → row < n → exact-words (getD (pieces n k (midOf a (n * k) w)) row []) ≡ true
-      each-row es row r = at-place es row (omega (arith, pieces-length n k (midOf a (n * k) w)))
+    part-pieces : pieces n k part ≡ pieces n k (drop a w)
+    part-pieces = pieces-take k n (drop a w) (omega (arith, length-drop a w))
 
-  pub exact-rows : Just-rows u f n k (midOf a (n * k) w) → all exact-words (pieces n k (drop a w)) ≡ true
-  exact-rows j =
-      ap (all exact-words) (sym part-pieces)
-      ∙ each-passes exact-words (each-by-place (pieces n k (midOf a (n * k) w)) [] (λ row l.
-      let p = piece-at k n (midOf a (n * k) w) row [] (omega (arith, pieces-length n k (midOf a (n * k) w))) in
-      ap exact-words p ∙ equal-same (sym (exact-row u f k wide n (midOf a (n * k) w) j row (omega (arith, pieces-length n k (midOf a (n * k) w)))))))
+    rows-exact : all exact-words (pieces n k (drop a w)) ≡ true → Just-rows u f n k part
+    rows-exact e =
+        just-rows u f k n part (mid-long a (n * k) w h) (λ row r.
+        let q : exact-words (getD (pieces n k part) row []) ≡ true
+        = at-place (passes-each exact-words (pieces n k part) (ap (all exact-words) part-pieces ∙ e)) row (omega (arith, pieces-length n k part)) in
+        sym (same-equal _ _ (ap exact-words (sym (piece-at k n part row [] r)) ∙ q)))
+      where
+        at-place : {ps : List (List ℕ)} → Each (λ ws. exact-words ws ≡ true) ps → (i : ℕ) → i < length ps → exact-words (getD ps i []) ≡ true
+        at-place none i l = absurd (omega arith)
+        at-place (one p ps) zero l = p
+        at-place (one p ps) (suc i) l = at-place ps i (omega arith)
+
+    exact-rows : Just-rows u f n k part → all exact-words (pieces n k (drop a w)) ≡ true
+    exact-rows j =
+        ap (all exact-words) (sym part-pieces)
+        ∙ each-passes exact-words (each-by-place (pieces n k part) [] (λ row l.
+        let r : row < n = omega (arith, pieces-length n k part) in
+        ap exact-words (piece-at k n part row [] r) ∙ equal-same (sym (exact-row u f k wide n part j row r))))
 
 -- THE WHOLE
 
 module _ (w : List ℕ) where
   -- each table's rows: just the words of what they hold, and valid
   abbrev exact-entries : Bool
-  exact-entries = all (λ ws. same ws (pack-entry (unpack-entry ws))) (pieces 512 5 w)
+  exact-entries = all (exact-words unpack-entry pack-entry) (entry-pieces w)
 
   abbrev exact-nodes : Bool
-  exact-nodes = all (λ ws. same ws (pack-node (unpack-node ws))) (pieces 256 17 (drop 2560 w))
+  exact-nodes = all (exact-words unpack-node pack-node) (node-pieces w)
 
   abbrev exact-holds : Bool
-  exact-holds = all (λ ws. same ws (pack-hold (unpack-hold ws))) (pieces 256 6 (drop 6912 w))
+  exact-holds = all (exact-words unpack-hold pack-hold) (hold-pieces w)
 
   abbrev exact-processes : Bool
-  exact-processes = all (λ ws. same ws (pack-process (unpack-process ws))) (pieces 64 1 (drop 8448 w))
+  exact-processes = all (exact-words unpack-process pack-process) (process-pieces w)
 
   abbrev valid-entries : Bool
   valid-entries = each-used free-entry (λ e. valid-name (e .place .name)) (unpack w .entries)
@@ -97,79 +87,81 @@ module _ (w : List ℕ) where
   abbrev valid-roles : Bool
   valid-roles = each-used free-hold role-valid (unpack w .holds)
 
-  entries-split : all entry-shaped (pieces 512 5 w) ≡ (exact-entries && valid-entries)
+  entries-split : all entry-shaped (entry-pieces w) ≡ (exact-entries && valid-entries)
   unfolding entry-shaped unpack each-used
-  entries-split =
-      all-both (λ ws. same ws (pack-entry (unpack-entry ws))) (λ ws. free-entry (unpack-entry ws) || valid-name (unpack-entry ws .place .name)) (pieces 512 5 w)
-      ∙ ap (λ b. exact-entries && b) (sym (all-map unpack-entry (λ e. free-entry e || valid-name (e .place .name)) (pieces 512 5 w)))
+  entries-split = rows-split unpack-entry pack-entry (λ e. free-entry e || valid-name (e .place .name)) (entry-pieces w)
 
-  nodes-split : all node-shaped (pieces 256 17 (drop 2560 w)) ≡ (exact-nodes && valid-nodes)
+  nodes-split : all node-shaped (node-pieces w) ≡ (exact-nodes && valid-nodes)
   unfolding node-shaped unpack each-used
-  nodes-split =
-      all-both (λ ws. same ws (pack-node (unpack-node ws))) (λ ws. free-node (unpack-node ws) || target-fits (unpack-node ws)) (pieces 256 17 (drop 2560 w))
-      ∙ ap (λ b. exact-nodes && b) (sym (all-map unpack-node (λ x. free-node x || target-fits x) (pieces 256 17 (drop 2560 w))))
+  nodes-split = rows-split unpack-node pack-node (λ x. free-node x || target-fits x) (node-pieces w)
 
-  holds-split : all hold-shaped (pieces 256 6 (drop 6912 w)) ≡ (exact-holds && (valid-holds && valid-roles))
+  holds-split : all hold-shaped (hold-pieces w) ≡ (exact-holds && (valid-holds && valid-roles))
   unfolding hold-shaped unpack each-used
   holds-split =
-      all-both (λ ws. same ws (pack-hold (unpack-hold ws))) (λ ws. free-hold (unpack-hold ws) || (valid-name (unpack-hold ws .place .name) && role-valid (unpack-hold ws))) (pieces 256 6 (drop 6912 w))
-      ∙ ap (λ b. exact-holds && b) (sym (all-map unpack-hold (λ h. free-hold h || (valid-name (h .place .name) && role-valid h)) (pieces 256 6 (drop 6912 w)))
-      ∙ all-alike (λ h. free-hold h || (valid-name (h .place .name) && role-valid h)) (λ h. (free-hold h || valid-name (h .place .name)) && (free-hold h || role-valid h))
+      rows-split unpack-hold pack-hold (λ h. free-hold h || (valid-name (h .place .name) && role-valid h)) (hold-pieces w)
+      ∙ ap (λ b. exact-holds && b)
+      (all-alike _ (λ h. (free-hold h || valid-name (h .place .name)) && (free-hold h || role-valid h))
       (λ h. or-and (free-hold h) (valid-name (h .place .name)) (role-valid h)) (unpack w .holds)
       ∙ all-both (λ h. free-hold h || valid-name (h .place .name)) (λ h. free-hold h || role-valid h) (unpack w .holds))
 
   -- the words are just those of the tables where each table's are
-  pub record All-exact : Type 0 where
-    pub entries : exact-entries ≡ true
-    pub nodes : exact-nodes ≡ true
-    pub holds : exact-holds ≡ true
-    pub processes : exact-processes ≡ true
+  abbrev all-exact : Bool
+  all-exact = exact-entries && (exact-nodes && (exact-holds && exact-processes))
 
-  exact-parts : length w ≡ 8512 → All-exact → exact w (unpack w) ≡ true
+  exact-parts : length w ≡ word-count → all-exact ≡ exact w (unpack w)
   unfolding exact
-  exact-parts l a =
+  exact-parts l =
+      same-when all-exact (exact w (unpack w))
+      (λ e. let behind = and-right exact-entries (exact-nodes && (exact-holds && exact-processes)) e in
+      let last = and-right exact-nodes (exact-holds && exact-processes) behind in
       equal-same (sym (parts-stand (record {
         long = l;
-        entries = rows-exact unpack-entry pack-entry 512 5 entry-wide 0 w (omega arith) (a .entries);
-        nodes = rows-exact unpack-node pack-node 256 17 node-wide 2560 w (omega arith) (a .nodes);
-        holds = rows-exact unpack-hold pack-hold 256 6 hold-wide 6912 w (omega arith) (a .holds);
-        processes = rows-exact unpack-process pack-process 64 1 process-wide 8448 w (omega arith) (a .processes);
-      }) .same))
+        entries = rows-exact unpack-entry pack-entry entry-rows entry-words entry-wide 0 w (omega arith) (and-left exact-entries _ e);
+        nodes = rows-exact unpack-node pack-node node-rows node-words node-wide first-node-word w (omega arith) (and-left exact-nodes _ behind);
+        holds = rows-exact unpack-hold pack-hold hold-rows hold-words hold-wide first-hold-word w (omega arith) (and-left exact-holds _ last);
+        processes = rows-exact unpack-process pack-process process-rows process-words process-wide first-process-word w (omega arith)
+            (and-right exact-holds exact-processes last);
+        behind = nothing-behind w l;
+      }) .same)))
+      (λ e. let p = stands-parts (record { long = l; same = sym (same-equal w (pack (unpack w)) e) }) in
+      both (exact-rows unpack-entry pack-entry entry-rows entry-words entry-wide 0 w (omega arith) (p .entries))
+      (both (exact-rows unpack-node pack-node node-rows node-words node-wide first-node-word w (omega arith) (p .nodes))
+      (both (exact-rows unpack-hold pack-hold hold-rows hold-words hold-wide first-hold-word w (omega arith) (p .holds))
+      (exact-rows unpack-process pack-process process-rows process-words process-wide first-process-word w (omega arith) (p .processes)))))
 
-  parts-exact : length w ≡ 8512 → exact w (unpack w) ≡ true → All-exact
-  unfolding exact
-  parts-exact l e =
-      let p = stands-parts (record { long = l; same = sym (same-equal w (pack (unpack w)) e) }) in
-      record {
-        entries = exact-rows unpack-entry pack-entry 512 5 entry-wide 0 w (omega arith) (p .entries);
-        nodes = exact-rows unpack-node pack-node 256 17 node-wide 2560 w (omega arith) (p .nodes);
-        holds = exact-rows unpack-hold pack-hold 256 6 hold-wide 6912 w (omega arith) (p .holds);
-        processes = exact-rows unpack-process pack-process 64 1 process-wide 8448 w (omega arith) (p .processes);
-      }
-
-  pub wrong-length : (length w ≡ 8512 → ⊥) → false ≡ shaped w
+  pub wrong-length : (length w ≡ word-count → ⊥) → false ≡ shaped w
   unfolding shaped exact
   wrong-length n =
-      sym (is-false (shaped w) (λ t. n (ap (length {A = ℕ}) (same-equal w (pack (unpack w)) (and-left _ (names-valid (unpack w) && (roles-valid (unpack w) && targets-valid (unpack w))) t)) ∙ packed-length (unpacked-fits w))))
+      sym (is-false (shaped w) (λ t.
+      let rules = names-valid (unpack w) && (roles-valid (unpack w) && targets-valid (unpack w)) in
+      let e = same-equal w (pack (unpack w)) (and-left (exact w (unpack w)) rules t) in
+      n (ap (length {A = ℕ}) e ∙ packed-length (unpacked-fits w))))
 
-  pub all-shaped : length w ≡ 8512
-      → (all entry-shaped (pieces 512 5 w) && (all node-shaped (pieces 256 17 (drop 2560 w)) && (all hold-shaped (pieces 256 6 (drop 6912 w)) && all process-shaped (pieces 64 1 (drop 8448 w))))) ≡ shaped w
+  pub all-shaped : length w ≡ word-count
+      → (all entry-shaped (entry-pieces w) && (all node-shaped (node-pieces w) && (all hold-shaped (hold-pieces w) && all process-shaped (process-pieces w)))) ≡ shaped w
   unfolding shaped names-valid roles-valid targets-valid role-valid process-shaped
   all-shaped l =
       ap₂ _&&_ entries-split (ap₂ _&&_ nodes-split (ap (λ b. b && exact-processes) holds-split))
-      ∙ same-when _ _
-      (λ t. let a = and-left (exact-entries && valid-entries) _ t in
-      let r = and-right (exact-entries && valid-entries) ((exact-nodes && valid-nodes) && ((exact-holds && (valid-holds && valid-roles)) && exact-processes)) t in
-      let b = and-left (exact-nodes && valid-nodes) _ r in
-      let q = and-right (exact-nodes && valid-nodes) ((exact-holds && (valid-holds && valid-roles)) && exact-processes) r in
-      let c = and-left (exact-holds && (valid-holds && valid-roles)) exact-processes q in
-      let d = and-right (exact-holds && (valid-holds && valid-roles)) exact-processes q in
-      let v = and-right exact-holds (valid-holds && valid-roles) c in
-      both (exact-parts l (record { entries = and-left exact-entries valid-entries a; nodes = and-left exact-nodes valid-nodes b; holds = and-left exact-holds (valid-holds && valid-roles) c; processes = d }))
-      (both (both (and-right exact-entries valid-entries a) (and-left valid-holds valid-roles v)) (both (and-right valid-holds valid-roles v) (and-right exact-nodes valid-nodes b))))
-      (λ t. let e = parts-exact l (and-left (exact w (unpack w)) ((valid-entries && valid-holds) && (valid-roles && valid-nodes)) t) in
-      let v = and-right (exact w (unpack w)) ((valid-entries && valid-holds) && (valid-roles && valid-nodes)) t in
-      let n = and-left (valid-entries && valid-holds) (valid-roles && valid-nodes) v in
-      let m = and-right (valid-entries && valid-holds) (valid-roles && valid-nodes) v in
-      both (both (e .entries) (and-left valid-entries valid-holds n))
-      (both (both (e .nodes) (and-right valid-roles valid-nodes m)) (both (both (e .holds) (both (and-right valid-entries valid-holds n) (and-left valid-roles valid-nodes m))) (e .processes))))
+      ∙ by-rules exact-entries valid-entries exact-nodes valid-nodes exact-holds valid-holds valid-roles exact-processes
+      ∙ ap (λ b. b && ((valid-entries && valid-holds) && (valid-roles && valid-nodes))) (exact-parts l)
+    where
+      to-the-end : (a b c : Bool) → ((a && b) && c) ≡ ((a && c) && b)
+      to-the-end false b c = refl
+      to-the-end true true c = sym (and-true c)
+      to-the-end true false true = refl
+      to-the-end true false false = refl
+
+      in-order : (a b c d : Bool) → (a && (b && (c && d))) ≡ ((a && c) && (d && b))
+      in-order false b c d = refl
+      in-order true true true d = sym (and-true d)
+      in-order true true false d = refl
+      in-order true false true true = refl
+      in-order true false true false = refl
+      in-order true false false d = refl
+
+      -- table by table is rule by rule
+      by-rules : (ee ve en vn eh vh vr ep : Bool)
+          → ((ee && ve) && ((en && vn) && ((eh && (vh && vr)) && ep))) ≡ ((ee && (en && (eh && ep))) && ((ve && vh) && (vr && vn)))
+      by-rules ee ve en vn eh vh vr ep =
+          ap (λ b. (ee && ve) && ((en && vn) && b)) (to-the-end eh (vh && vr) ep) ∙ ap (λ b. (ee && ve) && b) (and-middle en vn (eh && ep) (vh && vr))
+          ∙ and-middle ee ve (en && (eh && ep)) (vn && (vh && vr)) ∙ ap (λ b. (ee && (en && (eh && ep))) && b) (in-order ve vn vh vr)

@@ -1,13 +1,15 @@
 // What each row of the lent words has to meet by itself, row after row.
-ghost use mathlib.Core.Bool.{_||_};
 ghost use mathlib.Core.List.{[], _∷_};
 ghost use mathlib.Core.Path.{_≡_};
 ghost use Prim.Native.Nat.{_+_, _*_, _≤_, _<_};
 ghost use lib.Dec.{eqb};
 ghost use lib.ListN.{length, take, drop};
-ghost use Rattle.model.specs.Lists.{all, pieces};
-ghost use Rattle.model.specs.Words.{bytes};
-ghost use Rattle.shape.specs.Shaped.{entry-shaped, node-shaped, hold-shaped, process-shaped, zeros, link-fits, shaped};
+ghost use Rattle.model.specs.Lists.{all};
+ghost use Rattle.model.specs.Paths.{longest-target};
+ghost use Rattle.model.specs.Tables.{entry-rows, node-rows, hold-rows};
+ghost use Rattle.model.specs.Words.{entry-words, node-words, hold-words, first-node-word, first-hold-word, word-count, bytes};
+ghost use Rattle.rows.specs.Blocks.{target-words};
+ghost use Rattle.shape.specs.Shaped.{entry-pieces, node-pieces, hold-pieces, process-pieces, entry-shaped, node-shaped, hold-shaped, process-shaped, role-word, zeros, link-fits, shaped};
 use names::is_good_name;
 use paths::valid_target;
 use rows::Block;
@@ -25,6 +27,7 @@ use rows::NODE_WIDTH;
 use rows::NODES_START;
 use rows::PROCESS_ROWS;
 use rows::PROCESSES_START;
+use rows::ROLE_PLACE;
 use rows::TARGET_BYTES;
 use rows::TARGET_WORDS;
 use rows::TOP_UNIT;
@@ -60,8 +63,8 @@ pub fn is_shaped(words: &[u32]) -> bool
 }
 
 fn entries_shaped(words: &[u32]) -> bool
-    requires { ⌜ length (now words) ≡ 8512 ⌝ }
-    ensures { λ r. ⌜ r ≡ all entry-shaped (pieces 512 5 (now (words .entry))) ⌝ }
+    requires { ⌜ length (now words) ≡ word-count ⌝ }
+    ensures { λ r. ⌜ r ≡ all entry-shaped (entry-pieces (now (words .entry))) ⌝ }
 {
     let mut row = 0;
     while row < ENTRY_ROWS {
@@ -74,8 +77,8 @@ fn entries_shaped(words: &[u32]) -> bool
 }
 
 fn nodes_shaped(words: &[u32]) -> bool
-    requires { ⌜ length (now words) ≡ 8512 ⌝ }
-    ensures { λ r. ⌜ r ≡ all node-shaped (pieces 256 17 (drop 2560 (now (words .entry)))) ⌝ }
+    requires { ⌜ length (now words) ≡ word-count ⌝ }
+    ensures { λ r. ⌜ r ≡ all node-shaped (node-pieces (now (words .entry))) ⌝ }
 {
     let mut row = 0;
     while row < NODE_ROWS {
@@ -88,8 +91,8 @@ fn nodes_shaped(words: &[u32]) -> bool
 }
 
 fn holds_shaped(words: &[u32]) -> bool
-    requires { ⌜ length (now words) ≡ 8512 ⌝ }
-    ensures { λ r. ⌜ r ≡ all hold-shaped (pieces 256 6 (drop 6912 (now (words .entry)))) ⌝ }
+    requires { ⌜ length (now words) ≡ word-count ⌝ }
+    ensures { λ r. ⌜ r ≡ all hold-shaped (hold-pieces (now (words .entry))) ⌝ }
 {
     let mut row = 0;
     while row < HOLD_ROWS {
@@ -102,8 +105,8 @@ fn holds_shaped(words: &[u32]) -> bool
 }
 
 fn processes_shaped(words: &[u32]) -> bool
-    requires { ⌜ length (now words) ≡ 8512 ⌝ }
-    ensures { λ r. ⌜ r ≡ all process-shaped (pieces 64 1 (drop 8448 (now (words .entry)))) ⌝ }
+    requires { ⌜ length (now words) ≡ word-count ⌝ }
+    ensures { λ r. ⌜ r ≡ all process-shaped (process-pieces (now (words .entry))) ⌝ }
 {
     let mut row = 0;
     while row < PROCESS_ROWS {
@@ -116,11 +119,12 @@ fn processes_shaped(words: &[u32]) -> bool
 }
 
 fn entry_shaped(words: &[u32], row: usize) -> bool
-    requires { ⌜ (length (now words) ≡ 8512) × (row < 512) ⌝ }
-    ensures { λ r. ⌜ r ≡ entry-shaped (take 5 (drop (row * 5) (now (words .entry)))) ⌝ }
+    requires { ⌜ (length (now words) ≡ word-count) × (row < entry-rows) ⌝ }
+    ensures { λ r. ⌜ r ≡ entry-shaped (take entry-words (drop (row * entry-words) (now (words .entry)))) ⌝ }
 {
-    let head = words[row * ENTRY_WIDTH];
-    let name = block_at(words, row * ENTRY_WIDTH + 1);
+    let at = row * ENTRY_WIDTH;
+    let head = words[at];
+    let name = block_at(words, at + 1);
     if head < UPPER_UNIT {
         return is_blank(head, name, 0);
     }
@@ -128,12 +132,13 @@ fn entry_shaped(words: &[u32], row: usize) -> bool
 }
 
 fn hold_shaped(words: &[u32], row: usize) -> bool
-    requires { ⌜ (length (now words) ≡ 8512) × (row < 256) ⌝ }
-    ensures { λ r. ⌜ r ≡ hold-shaped (take 6 (drop (6912 + row * 6) (now (words .entry)))) ⌝ }
+    requires { ⌜ (length (now words) ≡ word-count) × (row < hold-rows) ⌝ }
+    ensures { λ r. ⌜ r ≡ hold-shaped (take hold-words (drop (first-hold-word + row * hold-words) (now (words .entry)))) ⌝ }
 {
-    let head = words[HOLDS_START + row * HOLD_WIDTH];
-    let name = block_at(words, HOLDS_START + row * HOLD_WIDTH + 1);
-    let role = words[HOLDS_START + row * HOLD_WIDTH + 5];
+    let at = HOLDS_START + row * HOLD_WIDTH;
+    let head = words[at];
+    let name = block_at(words, at + 1);
+    let role = words[at + ROLE_PLACE];
     if head < UPPER_UNIT {
         return is_blank(head, name, role);
     }
@@ -154,7 +159,7 @@ fn process_shaped(word: u32) -> bool
 
 // The word of an end hold, or of an element's.
 fn is_role(word: u32) -> bool
-    ensures { λ r. ⌜ r ≡ (eqb word 1073741824 || eqb word 2147483648) ⌝ }
+    ensures { λ r. ⌜ r ≡ role-word word ⌝ }
 {
     if word == END_ROLE {
         return true;
@@ -175,34 +180,35 @@ fn is_blank(head: u32, name: Block, tail: u32) -> bool
 }
 
 fn node_shaped(words: &[u32], row: usize) -> bool
-    requires { ⌜ (length (now words) ≡ 8512) × (row < 256) ⌝ }
-    ensures { λ r. ⌜ r ≡ node-shaped (take 17 (drop (2560 + row * 17) (now (words .entry)))) ⌝ }
+    requires { ⌜ (length (now words) ≡ word-count) × (row < node-rows) ⌝ }
+    ensures { λ r. ⌜ r ≡ node-shaped (take node-words (drop (first-node-word + row * node-words) (now (words .entry)))) ⌝ }
 {
-    let head = words[NODES_START + row * NODE_WIDTH];
+    let at = NODES_START + row * NODE_WIDTH;
+    let head = words[at];
     let kind = top_bits(head);
     if kind == 0 {
         if head != 0 {
             return false;
         }
-        return all_zeros(words, NODES_START + row * NODE_WIDTH + 1);
+        return all_zeros(words, at + 1);
     }
     if head % COUNT_UNIT != 0 {
         return false;
     }
     let length = length_bits(head);
     if kind == LINK {
-        return link_shaped(words, NODES_START + row * NODE_WIDTH + 1, length);
+        return link_shaped(words, at + 1, length);
     }
     if length != 0 {
         return false;
     }
-    all_zeros(words, NODES_START + row * NODE_WIDTH + 1)
+    all_zeros(words, at + 1)
 }
 
 // Whether the 16 words from `at` on are zeros: they are joined bit by bit, which is quicker than a test of each.
 fn all_zeros(words: &[u32], at: usize) -> bool
-    requires { ⌜ at + 16 ≤ length (now words) ⌝ }
-    ensures { λ r. ⌜ r ≡ zeros (take 16 (drop at (now (words .entry)))) ⌝ }
+    requires { ⌜ at + target-words ≤ length (now words) ⌝ }
+    ensures { λ r. ⌜ r ≡ zeros (take target-words (drop at (now (words .entry)))) ⌝ }
 {
     let mut joined: u32 = 0;
     let mut k = 0;
@@ -215,8 +221,8 @@ fn all_zeros(words: &[u32], at: usize) -> bool
 
 // Whether the 16 words from `at` on are those of a valid target of `size` bytes.
 fn link_shaped(words: &[u32], at: usize, size: usize) -> bool
-    requires { ⌜ at + 16 ≤ length (now words) ⌝ }
-    ensures { λ r. ⌜ r ≡ link-fits (bytes (take 16 (drop at (now (words .entry))))) size ⌝ }
+    requires { ⌜ at + target-words ≤ length (now words) ⌝ }
+    ensures { λ r. ⌜ r ≡ link-fits (bytes (take target-words (drop at (now (words .entry))))) size ⌝ }
 {
     if size > TARGET_BYTES {
         return false;
@@ -229,7 +235,7 @@ fn link_shaped(words: &[u32], at: usize, size: usize) -> bool
 }
 
 fn zeros_behind(target: &[u8; TARGET_BYTES], size: usize) -> bool
-    requires { ⌜ (size ≤ 64) × (length (now target) ≡ 64) ⌝ }
+    requires { ⌜ (size ≤ longest-target) × (length (now target) ≡ longest-target) ⌝ }
     ensures { λ r. ⌜ r ≡ zeros (drop size (now (target .entry))) ⌝ }
 {
     let mut i = size;

@@ -9,7 +9,7 @@ use Rattle.model.specs.Sound.{entries-distinct, entries-in-directories, entries
 use Rattle.laws.proofs.Bools.{and-left, and-right, both}
 use Rattle.laws.proofs.Chains.{True, chain-each, each-chain}
 use Rattle.laws.proofs.Each.{Each, none, one}
-use Rattle.invariants.proofs.Words.{unpacked-fits, packed-length, exact-back}
+use Rattle.laws.proofs.Words.{unpacked-fits, packed-length, exact-back}
 use Rattle.rows.specs.Stands.{Stands}
 use Rattle.rows.proofs.Blocks.{same-when}
 use Rattle.shape.specs.Shaped.{shaped}
@@ -19,44 +19,60 @@ use Rattle.soundness.specs.Groups.{tree-rules, hold-rules}
 taken : (a b : Bool) → (a && b) ≡ true → (a ≡ true) × (b ≡ true)
 taken a b e = (and-left a b e, and-right a b e)
 
+-- the test of the words, and the rules a to n in the model's order
+module _ (x a b c d e f g h i j k l m n : Bool) where
+  abbrev grouped : Bool
+  grouped = (x && (l && (m && n))) && (a && (((b && c) && (e && (d && f))) && (k && ((h && i) && (g && j)))))
+
+  abbrev Rules : Type 0
+  Rules = Each True (a ∷ b ∷ c ∷ d ∷ e ∷ f ∷ g ∷ h ∷ i ∷ j ∷ k ∷ l ∷ m ∷ n ∷ [])
+
+  put-together : x ≡ true → Rules → grouped ≡ true
+  put-together px (one pa (one pb (one pc (one pd (one pe (one pf (one pg (one ph (one pi (one pj (one pk (one pl (one pm (one pn none)))))))))))))) =
+      both (both px (both pl (both pm pn))) (both pa (both (both (both pb pc) (both pe (both pd pf))) (both pk (both (both ph pi) (both pg pj)))))
+
+  taken-apart : grouped ≡ true → (x ≡ true) × Rules
+  taken-apart all =
+      let halves = taken (x && (l && (m && n))) _ all in
+      let shape = taken x _ (halves .0) in
+      let named = taken l _ (shape .1) in
+      let roles = taken m n (named .1) in
+      let entries = taken a _ (halves .1) in
+      let groups = taken ((b && c) && (e && (d && f))) _ (entries .1) in
+      let tree = taken (b && c) _ (groups .0) in
+      let leads = taken b c (tree .0) in
+      let top = taken e _ (tree .1) in
+      let counts = taken d f (top .1) in
+      let processes = taken k _ (groups .1) in
+      let holds = taken (h && i) _ (processes .1) in
+      let placed = taken h i (holds .0) in
+      let pairs = taken g j (holds .1) in (
+        shape .0,
+        one (entries .0) (one (leads .0) (one (leads .1) (one (counts .0) (one (top .0) (one (counts .1) (one (pairs .0) (one (placed .0) (one (placed .1)
+            (one (pairs .1) (one (processes .0) (one (named .0) (one (roles .0) (one (roles .1) none))))))))))))),
+      )
+
 pub sound-by-groups : (w : List ℕ) → (shaped w && (entries-distinct (unpack w) && (tree-rules (unpack w) && hold-rules (unpack w)))) ≡ sound w
 unfolding sound sound-with sound-rows shaped
 sound-by-groups w =
     let t = unpack w in
     same-when _ _
-    (λ e.
-    let a = taken (shaped w) (entries-distinct (unpack w) && (tree-rules (unpack w) && hold-rules (unpack w))) e in
-    let s = taken (exact w (unpack w)) (names-valid (unpack w) && (roles-valid (unpack w) && targets-valid (unpack w))) (a .0) in
-    let n = taken (names-valid (unpack w)) (roles-valid (unpack w) && targets-valid (unpack w)) (s .1) in
-    let r = taken (roles-valid (unpack w)) (targets-valid (unpack w)) (n .1) in
-    let d = taken (entries-distinct (unpack w)) (tree-rules (unpack w) && hold-rules (unpack w)) (a .1) in
-    let g = taken (tree-rules (unpack w)) (hold-rules (unpack w)) (d .1) in
-    let i = taken (entries-in-directories (unpack w) && entries-lead-to-nodes (unpack w)) (first-node-right (unpack w) && (counts-right (unpack w) && counts-fit (unpack w))) (g .0) in
-    let j = taken (entries-in-directories (unpack w)) (entries-lead-to-nodes (unpack w)) (i .0) in
-    let f = taken (first-node-right (unpack w)) (counts-right (unpack w) && counts-fit (unpack w)) (i .1) in
-    let c = taken (counts-right (unpack w)) (counts-fit (unpack w)) (f .1) in
-    let h = taken (processes-distinct (unpack w)) ((holds-in-directories (unpack w) && holds-of-listed (unpack w)) && (holds-distinct (unpack w) && ends-of-one-user (unpack w))) (g .1) in
-    let k = taken (holds-in-directories (unpack w) && holds-of-listed (unpack w)) (holds-distinct (unpack w) && ends-of-one-user (unpack w)) (h .1) in
-    let p = taken (holds-in-directories (unpack w)) (holds-of-listed (unpack w)) (k .0) in
-    let q = taken (holds-distinct (unpack w)) (ends-of-one-user (unpack w)) (k .1) in
-    both (s .0) (each-chain (one (d .0) (one (j .0) (one (j .1) (one (c .0) (one (f .0) (one (c .1) (one (q .0) (one (p .0) (one (p .1) (one (q .1) (one (h .0)
-    (one (n .0) (one (r .0) (one (r .1) none))))))))))))))))
-    (λ e. grouped (and-left (exact w (unpack w)) (sound-rows (unpack w)) e)
-    (chain-each (entries-distinct (unpack w)) (entries-in-directories (unpack w) ∷ entries-lead-to-nodes (unpack w) ∷ counts-right (unpack w) ∷ first-node-right (unpack w)
-    ∷ counts-fit (unpack w) ∷ holds-distinct (unpack w) ∷ holds-in-directories (unpack w) ∷ holds-of-listed (unpack w) ∷ ends-of-one-user (unpack w)
-    ∷ processes-distinct (unpack w) ∷ names-valid (unpack w) ∷ roles-valid (unpack w) ∷ targets-valid (unpack w) ∷ []) (and-right (exact w (unpack w)) (sound-rows (unpack w)) e)))
-  where
-    grouped : {x a b c d e f g h i j k l m n : Bool} → x ≡ true → Each True (a ∷ b ∷ c ∷ d ∷ e ∷ f ∷ g ∷ h ∷ i ∷ j ∷ k ∷ l ∷ m ∷ n ∷ [])
-        → ((x && (l && (m && n))) && (a && (((b && c) && (e && (d && f))) && (k && ((h && i) && (g && j)))))) ≡ true
-    grouped x (one a (one b (one c (one d (one e (one f (one g (one h (one i (one j (one k (one l (one m (one n none)))))))))))))) =
-        both (both x (both l (both m n))) (both a (both (both (both b c) (both e (both d f))) (both k (both (both h i) (both g j)))))
+    (λ all.
+    let rules = taken-apart (exact w t) (entries-distinct t) (entries-in-directories t) (entries-lead-to-nodes t) (counts-right t) (first-node-right t)
+    (counts-fit t) (holds-distinct t) (holds-in-directories t) (holds-of-listed t) (ends-of-one-user t) (processes-distinct t) (names-valid t) (roles-valid t)
+    (targets-valid t) all in
+    both (rules .0) (each-chain (rules .1)))
+    (λ all.
+    put-together _ _ _ _ _ _ _ _ _ _ _ _ _ _ _ (and-left (exact w t) (sound-rows t) all)
+    (chain-each (entries-distinct t) (entries-in-directories t ∷ entries-lead-to-nodes t ∷ counts-right t ∷ first-node-right t ∷ counts-fit t ∷ holds-distinct t
+    ∷ holds-in-directories t ∷ holds-of-listed t ∷ ends-of-one-user t ∷ processes-distinct t ∷ names-valid t ∷ roles-valid t ∷ targets-valid t ∷ [])
+    (and-right (exact w t) (sound-rows t) all)))
 
 -- words that are shaped stand for the tables that they hold
 pub shaped-stands : (w : List ℕ) → shaped w ≡ true → Stands w
 unfolding shaped
 shaped-stands w e =
-    let x = and-left (exact w (unpack w)) (names-valid (unpack w) && (roles-valid (unpack w) && targets-valid (unpack w))) e in
-    let back = exact-back w x in
+    let back = exact-back w (and-left (exact w (unpack w)) _ e) in
     record { long = sym (ap length back) ∙ packed-length (unpacked-fits w); same = back }
 
 -- THE TEST, part after part
@@ -70,10 +86,3 @@ module _ (w : List ℕ) (s : shaped w ≡ true) where
 
   pub rules-decide : entries-distinct (unpack w) ≡ true → {r : Bool} → r ≡ (tree-rules (unpack w) && hold-rules (unpack w)) → r ≡ sound w
   rules-decide d q = q ∙ sym (rw (s, d)) ∙ sound-by-groups w
-
--- the rules in turn: the first that is broken decides
-pub first-broken : {a : Bool} (b : Bool) → a ≡ false → false ≡ (a && b)
-first-broken b e = rw e
-
-pub then : {a b r : Bool} → a ≡ true → r ≡ b → r ≡ (a && b)
-then e q = rw e q

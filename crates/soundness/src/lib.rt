@@ -2,13 +2,14 @@
 ghost use mathlib.Core.Bool.{true, _&&_};
 ghost use mathlib.Core.Path.{_≡_};
 ghost use lib.ListN.{replicate};
+ghost use Rattle.model.specs.Tables.{entry-rows};
 ghost use Rattle.model.specs.Sound.{sound};
 ghost use Rattle.model.specs.Words.{unpack};
 ghost use Rattle.rows.specs.Stands.{Stands};
-ghost use Rattle.index.specs.Indexed.{Indexed};
+ghost use Rattle.index.specs.Indexed.{entry-buckets, Indexed};
 ghost use Rattle.soundness.specs.Groups.{tree-rules, hold-rules};
-use hold_pairs::ends_agree;
-use hold_pairs::holds_apart;
+use hold_rules::ends_agree;
+use hold_rules::holds_apart;
 use hold_rules::holds_placed;
 use hold_rules::used_hold_rows;
 use index::BUCKETS;
@@ -35,7 +36,7 @@ pub fn sound_and_index(
     heads: &mut [u16; BUCKETS],
     next: &mut [u16; ENTRY_ROWS],
 ) -> bool
-    requires { ⌜ (now heads ≡ replicate 1021 0) × (now next ≡ replicate 512 0) ⌝ }
+    requires { ⌜ (now heads ≡ replicate entry-buckets 0) × (now next ≡ replicate entry-rows 0) ⌝ }
     ensures { λ r. ⌜ (r ≡ sound (now (words .entry))) × (r ≡ true → Indexed (now (words .entry)) (now (heads .exit)) (now (next .exit))) ⌝ }
 {
     if !is_shaped(words) {

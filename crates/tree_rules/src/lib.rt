@@ -1,14 +1,13 @@
 // The rules of sound tables that take more than one row: entries and the nodes that they lead to.
-ghost use mathlib.Core.Bool.{_&&_, _||_, not};
+ghost use mathlib.Core.Bool.{_&&_};
 ghost use mathlib.Core.Path.{_≡_};
 ghost use Prim.Native.Nat.{_+_, _<_};
-ghost use lib.Dec.{eqb};
 ghost use lib.ListN.{replicate};
-ghost use Rattle.model.specs.Tables.{free-entry, free-node, node-at, is-directory};
-ghost use Rattle.model.specs.Sound.{entries-in-directories, entries-lead-to-nodes, leading-to, counts-right, first-node-right, count-fits, counts-fit};
+ghost use Rattle.model.specs.Tables.{entry-rows, node-rows};
+ghost use Rattle.model.specs.Sound.{entries-in-directories, entries-lead-to-nodes, counts-right, first-node-right, counts-fit};
 ghost use Rattle.model.specs.Words.{unpack};
 ghost use Rattle.rows.specs.Stands.{Stands, entry-row, node-row};
-ghost use Rattle.tree_rules.specs.Tallied.{Tallied};
+ghost use Rattle.tree_rules.specs.Tallied.{tree-rules, leads, counted-right, counted-fit, counters, Tallied};
 use rows::DIRECTORY;
 use rows::ENTRY_ROWS;
 use rows::NODE_ROWS;
@@ -27,7 +26,7 @@ const COUNTS: usize = NODE_ROWS + 1;
 // Whether each entry is in a directory and leads to a node, and the counts of the nodes are right.
 pub fn tree_right(words: &[u32]) -> bool
     requires { ⌜ Stands (now words) ⌝ }
-    ensures { λ r. ⌜ r ≡ ((entries-in-directories (unpack (now (words .entry))) && entries-lead-to-nodes (unpack (now (words .entry)))) && (first-node-right (unpack (now (words .entry))) && (counts-right (unpack (now (words .entry))) && counts-fit (unpack (now (words .entry)))))) ⌝ }
+    ensures { λ r. ⌜ r ≡ tree-rules (unpack (now (words .entry))) ⌝ }
 {
     if !entries_lead(words) {
         return false;
@@ -58,8 +57,8 @@ fn entries_lead(words: &[u32]) -> bool
 }
 
 fn entry_leads(words: &[u32], row: usize) -> bool
-    requires { ⌜ (Stands (now words)) × (row < 512) ⌝ }
-    ensures { λ r. ⌜ r ≡ (free-entry (entry-row (now (words .entry)) row) || (is-directory (unpack (now (words .entry)) .nodes) (entry-row (now (words .entry)) row .place .directory) && not (free-node (node-at (unpack (now (words .entry)) .nodes) (entry-row (now (words .entry)) row .node))))) ⌝ }
+    requires { ⌜ (Stands (now words)) × (row < entry-rows) ⌝ }
+    ensures { λ r. ⌜ r ≡ leads (unpack (now (words .entry)) .nodes) (entry-row (now (words .entry)) row) ⌝ }
 {
     let directory = entry_directory(words, row);
     if directory == 0 {
@@ -82,14 +81,14 @@ fn first_right(words: &[u32]) -> bool
 }
 
 fn one_more(count: u16) -> u16
-    requires { ⌜ count < 512 ⌝ }
+    requires { ⌜ count < entry-rows ⌝ }
     ensures { λ r. ⌜ r ≡ count + 1 ⌝ }
 {
     count + 1
 }
 
 fn tally(words: &[u32], counts: &mut [u16; COUNTS])
-    requires { ⌜ (Stands (now words)) × (now counts ≡ replicate 257 0) ⌝ }
+    requires { ⌜ (Stands (now words)) × (now counts ≡ replicate counters 0) ⌝ }
     ensures { λ _. ⌜ Tallied (now (words .entry)) (now (counts .exit)) ⌝ }
 {
     let mut row = 0;
@@ -120,8 +119,8 @@ fn all_counts_right(words: &[u32], counts: &[u16; COUNTS]) -> bool
 }
 
 fn count_right(words: &[u32], counts: &[u16; COUNTS], row: usize) -> bool
-    requires { ⌜ (Stands (now words)) × ((Tallied (now words) (now counts)) × (row < 256)) ⌝ }
-    ensures { λ r. ⌜ r ≡ (free-node (node-row (now (words .entry)) row) || eqb (node-row (now (words .entry)) row .count) (leading-to (unpack (now (words .entry)) .entries) (1 + row))) ⌝ }
+    requires { ⌜ (Stands (now words)) × ((Tallied (now words) (now counts)) × (row < node-rows)) ⌝ }
+    ensures { λ r. ⌜ r ≡ counted-right (unpack (now (words .entry)) .entries) (1 + row) (node-row (now (words .entry)) row) ⌝ }
 {
     if kind_in(words, row) == 0 {
         return true;
@@ -144,8 +143,8 @@ fn all_counts_fit(words: &[u32]) -> bool
 }
 
 fn count_fits(words: &[u32], row: usize) -> bool
-    requires { ⌜ (Stands (now words)) × (row < 256) ⌝ }
-    ensures { λ r. ⌜ r ≡ (free-node (node-row (now (words .entry)) row) || count-fits (1 + row) (node-row (now (words .entry)) row)) ⌝ }
+    requires { ⌜ (Stands (now words)) × (row < node-rows) ⌝ }
+    ensures { λ r. ⌜ r ≡ counted-fit (1 + row) (node-row (now (words .entry)) row) ⌝ }
 {
     let kind = kind_in(words, row);
     if kind == 0 {

@@ -10,6 +10,9 @@ use listing::Part;
 use listing::Stop;
 use rows::WORD_COUNT;
 
+// Room for many records, and few enough that their lines fit the kit's large buffer: a record has seven bytes or more, a line at most 35.
+const INPUT_BYTES: usize = 12288;
+
 // What is kept from turn to turn: how many bytes at the buffer's front are unread, and the place of the next line.
 struct Standing {
     unread: usize,
@@ -109,7 +112,7 @@ fn list_all(words: &mut [u32], bytes: &mut [u8], out: &mut [u8]) {
 fn main() {
     let mut words = [0u32; WORD_COUNT];
     fresh::fresh(&mut words);
-    let mut bytes = [0u8; 12288];
+    let mut bytes = [0u8; INPUT_BYTES];
     let mut out = io::large_buffer();
     list_all(&mut words, &mut bytes, &mut out);
 }

@@ -15,27 +15,27 @@ use lib.Seq.{sets, sets-eq}
 use Rattle.model.specs.Refusals.{Outcome, refused, granted, _>>=_}
 use Rattle.model.specs.Paths.{Name}
 use Rattle.model.specs.Tables.{Place, Entry, Node, a-directory, node-at, is-directory}
-use Rattle.model.specs.Walk.{Goal, after-link, walk-within}
+use Rattle.model.specs.Walk.{Goal, past}
 use Rattle.goals.proofs.Stop.{the-type}
 use Rattle.goals.specs.declared.Stop.{Stop}
 use Rattle.goals.specs.declared.Stop.the-variants.{Refused, Root, Entry as Stopped-at}
 use Rattle.goals.specs.Goals.{place-row, stop-of, node-at-end}
 use Rattle.walk.specs.declared.Stretch.{Stretch}
 use Rattle.walk.specs.declared.Trail.{Trail}
-use Rattle.walk.specs.Trails.{turned-away, continued, through, onward-from, by-kind, only-directory}
+use Rattle.walk.specs.Trails.{turned-away, continued, through, onward-from, by-kind, only-directory, walk-within}
 use Rattle.walk.proofs.Legs.{prefixed, entered, onward, enter-nothing, enter-other, enter-directory}
 use Rattle.walk.proofs.Ends.{Ends}
 
 prefixed-refused : (es : List Place) (n : ℕ) → prefixed es (refused n) ≡ refused n
-unfolding prefixed after-link
+unfolding prefixed past
 prefixed-refused [] n = refl
-prefixed-refused (q ∷ es) n = ap (after-link q) (prefixed-refused es n)
+prefixed-refused (q ∷ es) n = ap (past q) (prefixed-refused es n)
 
 module _ (row : Place → ℕ) where
   -- ONE LINK MORE
 
-  pub continued-link : (t : Trail) (q : Place) (begin : ℕ) (o : Outcome Goal) → continued row (through t (row q) begin) o ≡ continued row t (after-link q o)
-  unfolding continued after-link
+  pub continued-link : (t : Trail) (q : Place) (begin : ℕ) (o : Outcome Goal) → continued row (through t (row q) begin) o ≡ continued row t (past q o)
+  unfolding continued past
   continued-link t q begin (refused n) = refl
   continued-link t q begin (granted g) =
       let many : t .count + 1 + length (g .elements) ≡ t .count + suc (length (g .elements)) = omega arith in

@@ -12,14 +12,15 @@ use lib.ListN.{length}
 use Rattle.model.specs.Refusals.{Outcome, refused, granted, _>>=_}
 use Rattle.model.specs.Paths.{Name, names}
 use Rattle.model.specs.Tables.{Place, Entry, Node, a-directory, node-at, is-directory}
-use Rattle.model.specs.Walk.{Goal, Found, nothing, file, directory, link, found, here, after-link, start, follow, turn, walk-names, walk-within}
-use Rattle.invariants.proofs.Walks.{found-directory}
-use Rattle.walk.proofs.Found.{Walkable, start-directory, found-file}
+use Rattle.model.specs.Walk.{Goal, Found, nothing, file, directory, link, found, Trip, here, astray, past, after-link, start, follow, turn, trip-names, trip-within}
+use Rattle.invariants.proofs.Walks.{found-directory, start-directory}
+use Rattle.walk.specs.Trails.{walk-within}
+use Rattle.walk.proofs.Found.{Walkable, found-file}
 
 -- the links of a first leg, before all that came after it
 unfoldable pub prefixed : List Place → Outcome Goal → Outcome Goal
 prefixed [] o = o
-prefixed (q ∷ qs) o = after-link q (prefixed qs o)
+prefixed (q ∷ qs) o = past q (prefixed qs o)
 
 module _ (entries : List Entry) (nodes : List Node) where
   -- the names that are left, from the node that was reached: it has to be there, and a directory
@@ -59,23 +60,23 @@ module _ (entries : List Entry) (nodes : List Node) where
   -- WALKS AND JUMPS
 
   -- what follows a link where k links are left: one of them is spent, and where none is left the walk is refused
-  unfoldable pub jump-within : Bool → ℕ → ℕ → List Name → Outcome Goal
-  jump-within follow-last zero d rest = refused 7
-  jump-within follow-last (suc k) d rest = walk-within entries nodes follow-last k d rest
+  unfoldable pub jump-within : Bool → ℕ → ℕ → List Name → Trip
+  jump-within follow-last zero d rest = astray 7
+  jump-within follow-last (suc k) d rest = trip-within (found entries nodes) follow-last k d rest
 
   pub within-names : (follow-last : Bool) (k d : ℕ) (ns : List Name) →
-      walk-within entries nodes follow-last k d ns ≡ walk-names entries nodes follow-last (jump-within follow-last k) d ns
-  unfolding walk-within jump-within
+      trip-within (found entries nodes) follow-last k d ns ≡ trip-names (found entries nodes) follow-last (jump-within follow-last k) d ns
+  unfolding trip-within jump-within
   within-names follow-last zero d ns = refl
   within-names follow-last (suc k) d ns = refl
 
-  after-link-onward : (follow-last : Bool) (q : Place) (k : ℕ) (rest : List Name) (o : Outcome Goal) →
-      after-link q (o >>= onward follow-last k rest) ≡ (after-link q o >>= onward follow-last (suc k) rest)
-  unfolding after-link _>>=_ onward prefixed
-  after-link-onward follow-last q k rest (refused n) = refl
-  after-link-onward follow-last q k rest (granted g) =
+  past-onward : (follow-last : Bool) (q : Place) (k : ℕ) (rest : List Name) (o : Outcome Goal) →
+      past q (o >>= onward follow-last k rest) ≡ (past q o >>= onward follow-last (suc k) rest)
+  unfolding past _>>=_ onward prefixed
+  past-onward follow-last q k rest (refused n) = refl
+  past-onward follow-last q k rest (granted g) =
       let e : k - length (g .elements) ≡ suc k - suc (length (g .elements)) = omega arith in
-      ap (λ (j : ℕ). after-link q (prefixed (g .elements) (entered follow-last j (g .node) rest))) e
+      ap (λ (j : ℕ). past q (prefixed (g .elements) (entered follow-last j (g .node) rest))) e
 
   -- THE LAW
 
@@ -83,35 +84,35 @@ module _ (entries : List Entry) (nodes : List Node) where
   abbrev Jumps : ℕ → Type 0
   Jumps k =
       (follow-last : Bool) (q : Place) (s : ℕ) (ns : List Name) (m : Name) (rest : List Name) → is-directory nodes s ≡ true →
-      after-link q (jump-within follow-last k s (ns ++ (m ∷ rest)))
-      ≡ (after-link q (jump-within true k s ns) >>= onward follow-last k (m ∷ rest))
+      past q (jump-within follow-last k s (ns ++ (m ∷ rest)) .outcome)
+      ≡ (past q (jump-within true k s ns .outcome) >>= onward follow-last k (m ∷ rest))
 
   module _ (walkable : Walkable entries nodes) (follow-last : Bool) (k : ℕ) (jumps : Jumps k) (m : Name) (rest : List Name) where
     follow-legs : (q : Place) (target : List ℕ) (ns : List Name) → is-directory nodes (q .directory) ≡ true →
-        follow (jump-within follow-last k) q target (ns ++ (m ∷ rest))
-        ≡ (follow (jump-within true k) q target ns >>= onward follow-last k (m ∷ rest))
-    unfolding follow
+        follow (jump-within follow-last k) q target (ns ++ (m ∷ rest)) .outcome
+        ≡ (follow (jump-within true k) q target ns .outcome >>= onward follow-last k (m ∷ rest))
+    unfolding follow after-link
     follow-legs q target ns d =
-        ap (λ (l : List Name). after-link q (jump-within follow-last k (start (q .directory) target) l)) (sym (append-assoc (names target) ns (m ∷ rest)))
+        ap (λ (l : List Name). past q (jump-within follow-last k (start (q .directory) target) l .outcome)) (sym (append-assoc (names target) ns (m ∷ rest)))
         ∙ jumps follow-last q (start (q .directory) target) (names target ++ ns) m rest (start-directory nodes (q .directory) target (walkable .top) d)
 
     reached-directory : (n : ℕ) → is-directory nodes n ≡ true →
-        walk-names entries nodes follow-last (jump-within follow-last k) n (m ∷ rest)
+        trip-names (found entries nodes) follow-last (jump-within follow-last k) n (m ∷ rest) .outcome
         ≡ onward follow-last k (m ∷ rest) (record { end = none; node = n; elements = [] })
     unfolding onward prefixed
     reached-directory n d =
         let e : k ≡ k - 0 = omega arith in
-        sym (within-names follow-last k n (m ∷ rest)) ∙ sym (enter-directory follow-last k n (m ∷ rest) d)
+        ap (λ (x : Trip). x .outcome) (sym (within-names follow-last k n (m ∷ rest))) ∙ sym (enter-directory follow-last k n (m ∷ rest) d)
         ∙ ap (λ (j : ℕ). entered follow-last j n (m ∷ rest)) e
 
     turn-legs : (q : Place) (f : Found) (ns : List Name) → found entries nodes q ≡ f → is-directory nodes (q .directory) ≡ true →
         ((n : ℕ) → is-directory nodes n ≡ true →
-        walk-names entries nodes follow-last (jump-within follow-last k) n (ns ++ (m ∷ rest))
-        ≡ (walk-names entries nodes true (jump-within true k) n ns >>= onward follow-last k (m ∷ rest))) →
-        turn (jump-within follow-last k) (λ n. walk-names entries nodes follow-last (jump-within follow-last k) n (ns ++ (m ∷ rest))) follow-last q f
-        (ns ++ (m ∷ rest))
-        ≡ (turn (jump-within true k) (λ n. walk-names entries nodes true (jump-within true k) n ns) true q f ns >>= onward follow-last k (m ∷ rest))
-    unfolding turn _>>=_ here onward prefixed entered node-at
+        trip-names (found entries nodes) follow-last (jump-within follow-last k) n (ns ++ (m ∷ rest)) .outcome
+        ≡ (trip-names (found entries nodes) true (jump-within true k) n ns .outcome >>= onward follow-last k (m ∷ rest))) →
+        turn (jump-within follow-last k) (λ n. trip-names (found entries nodes) follow-last (jump-within follow-last k) n (ns ++ (m ∷ rest))) follow-last q f
+        (ns ++ (m ∷ rest)) .outcome
+        ≡ (turn (jump-within true k) (λ n. trip-names (found entries nodes) true (jump-within true k) n ns) true q f ns .outcome >>= onward follow-last k (m ∷ rest))
+    unfolding turn _>>=_ here astray onward prefixed entered node-at
     turn-legs q nothing [] e d h = refl
     turn-legs q nothing (n ∷ ns) e d h = refl
     turn-legs q (file n) [] e d h =
@@ -124,9 +125,9 @@ module _ (entries : List Entry) (nodes : List Node) where
     turn-legs q (link x target) (n ∷ ns) e d h = follow-legs q target (n ∷ ns) d
 
     names-legs : (d : ℕ) (ns : List Name) → is-directory nodes d ≡ true →
-        walk-names entries nodes follow-last (jump-within follow-last k) d (ns ++ (m ∷ rest))
-        ≡ (walk-names entries nodes true (jump-within true k) d ns >>= onward follow-last k (m ∷ rest))
-    unfolding walk-names _>>=_
+        trip-names (found entries nodes) follow-last (jump-within follow-last k) d (ns ++ (m ∷ rest)) .outcome
+        ≡ (trip-names (found entries nodes) true (jump-within true k) d ns .outcome >>= onward follow-last k (m ∷ rest))
+    unfolding trip-names _>>=_
     names-legs d [] e = reached-directory d e
     names-legs d (n ∷ ns) e =
         let q : Place = record { directory = d; name = n } in
@@ -135,15 +136,15 @@ module _ (entries : List Entry) (nodes : List Node) where
     within-legs : (d : ℕ) (ns : List Name) → is-directory nodes d ≡ true →
         walk-within entries nodes follow-last k d (ns ++ (m ∷ rest)) ≡ (walk-within entries nodes true k d ns >>= onward follow-last k (m ∷ rest))
     within-legs d ns e =
-        within-names follow-last k d (ns ++ (m ∷ rest)) ∙ names-legs d ns e
-        ∙ ap (λ (o : Outcome Goal). o >>= onward follow-last k (m ∷ rest)) (sym (within-names true k d ns))
+        ap (λ (x : Trip). x .outcome) (within-names follow-last k d (ns ++ (m ∷ rest))) ∙ names-legs d ns e
+        ∙ ap (λ (x : Trip). x .outcome >>= onward follow-last k (m ∷ rest)) (sym (within-names true k d ns))
 
   jump-legs : Walkable entries nodes → (k : ℕ) → Jumps k
-  unfolding jump-within after-link _>>=_
+  unfolding jump-within astray past _>>=_
   jump-legs walkable zero follow-last q s ns m rest e = refl
   jump-legs walkable (suc k) follow-last q s ns m rest e =
-      ap (after-link q) (within-legs walkable follow-last k (jump-legs walkable k) m rest s ns e)
-      ∙ after-link-onward follow-last q k (m ∷ rest) (walk-within entries nodes true k s ns)
+      ap (past q) (within-legs walkable follow-last k (jump-legs walkable k) m rest s ns e)
+      ∙ past-onward follow-last q k (m ∷ rest) (walk-within entries nodes true k s ns)
 
   pub walk-legs : Walkable entries nodes → (follow-last : Bool) (k d : ℕ) (ns : List Name) (m : Name) (rest : List Name) → is-directory nodes d ≡ true →
       walk-within entries nodes follow-last k d (ns ++ (m ∷ rest)) ≡ (walk-within entries nodes true k d ns >>= onward follow-last k (m ∷ rest))

@@ -6,22 +6,23 @@ use mathlib.Core.Logic.{_≢_, _⊎_}
 use mathlib.Core.List.{List, [], _∷_}
 use Prim.Native.Nat.{ℕ, zero, suc, _+_, _-_, _≤_, _<_}
 use native.Mathlib.Omega.{arith}
-use lib.Dec.{eqb, leb, ltb}
+use lib.Dec.{eqb, ltb}
 use lib.ListN.{length, getD, take, drop}
-use borrow.Author.Tests.{eqb-true, eqb-false, leb-true, leb-false, ltb-true, ltb-false, le-ltb, lt-ltb}
-use Rattle.model.specs.Lists.{all, filled}
+use borrow.Author.Tests.{eqb-true, eqb-false, ltb-true, ltb-false, le-ltb, lt-ltb}
+use Rattle.model.specs.Lists.{filled}
 use Rattle.model.specs.Refusals.{Outcome, _>>=_}
-use Rattle.model.specs.Paths.{Name, slash, names, absolute, valid-name}
+use Rattle.model.specs.Paths.{Name, longest-name, longest-target, slash, names, absolute, valid-name, valid-names}
 use Rattle.model.specs.Tables as model-tables
-use Rattle.model.specs.Tables.{Node, a-link, free-node, node-at, is-directory, lookup}
+use Rattle.model.specs.Tables.{Node, node-rows, a-link, free-node, node-at, is-directory, lookup}
 use Rattle.model.specs.Words.{unpack}
-use Rattle.model.specs.Walk.{Goal, start, follow, walk-within}
-use Rattle.laws.proofs.Bools.{clash}
+use Rattle.model.specs.Walk.{Goal, start, follow}
 use Rattle.laws.proofs.Each.{each-by-place, each-drop, each-take}
 use Rattle.laws.proofs.Pieces.{filled-length, filled-front}
+use Rattle.invariants.proofs.Goals.{valid-fits}
 use Rattle.invariants.proofs.Rows.{used-in-range}
-use Rattle.invariants.proofs.Words.{Name-fits}
-use Rattle.invariants.proofs.Words as model-words
+use Rattle.invariants.proofs.Walks.{start-directory}
+use Rattle.laws.proofs.Words.{Name-fits}
+use Rattle.laws.proofs.Words as model-words
 use Rattle.rows.specs.declared.Block.{Block}
 use Rattle.rows.specs.Blocks.{Named, name-of, block-of, place-of}
 use Rattle.rows.specs.Stands.{node-row}
@@ -33,15 +34,14 @@ use Rattle.goals.specs.declared.Stop.the-variants.{Refused, Root, Entry}
 use Rattle.goals.specs.Goals.{place-row}
 use Rattle.paths.specs.declared.Next.the-variants.{Name as Named-next}
 use Rattle.paths.specs.Split.{next}
-use Rattle.paths.proofs.Names.{name-longer}
 use Rattle.paths.proofs.Parts.{parts-split}
 use Rattle.paths.proofs.Splits.{Splits-valid, next-splits, next-splits-valid}
 use Rattle.index.specs.Indexed.{row-found, node-in}
-use Rattle.index.proofs.Entries.{node-found-there}
+use Rattle.index.proofs.Entries.{block-back, node-found-there}
 use Rattle.walk.specs.declared.Stretch.{Stretch}
 use Rattle.walk.specs.declared.Trail.{Trail}
-use Rattle.walk.specs.Trails.{turned-away, continued, through, onward-from, followed, only-directory, walked-from, link-walked, Ready}
-use Rattle.walk.proofs.Found.{Walkable, Good-target, good-target, start-directory, sound-walkable}
+use Rattle.walk.specs.Trails.{turned-away, continued, through, onward-from, followed, only-directory, walk-within, walked-from, link-walked, Ready}
+use Rattle.walk.proofs.Found.{Walkable, Good-target, good-target, sound-walkable}
 use Rattle.walk.proofs.Legs.{jump-within, onward, walk-legs}
 use Rattle.walk.proofs.Ends.{Ends, walk-ends}
 use Rattle.walk.proofs.Continues.{is-refused, continued-link, stopped-leg, next-leg}
@@ -49,31 +49,22 @@ use Rattle.walk.proofs.Answers.{stops-there, follows-link, stopped-at, 
 
 -- A NAME IS MET
 
-short-name : (n : Name) → valid-name n ≡ true → length n ≤ 14
-short-name n v = go (leb (length n) 14) refl
-  where
-    go : (b : Bool) → leb (length n) 14 ≡ b → length n ≤ 14
-    go true e = leb-true (length n) 14 e
-    go false e = let long = leb-false (length n) 14 e in clash v (name-longer n (omega arith) long)
-
 pub name-fits : (path : List ℕ) (start size : ℕ) → ((i : ℕ) → getD path i 0 < 256) → valid-name (take size (drop start path)) ≡ true →
     Name-fits (take size (drop start path))
 name-fits path start size bytes v =
-    record {
-      short = short-name (take size (drop start path)) v;
-      bytes = each-take size (each-drop start (each-by-place path 0 (λ i h. bytes i)));
-    }
+    valid-fits (take size (drop start path))
+    (record { valid = v; bytes = each-take size (each-drop start (each-by-place path 0 (λ i h. bytes i))) })
 
 -- what is known of a name that comes next
 pub record Next-name (path : List ℕ) (at start size : ℕ) : Type 0 where
   pub split : Splits-valid path at start size
   pub inside : start + size ≤ length path
   pub onward : at < start + size
-  pub short : size ≤ 14
+  pub short : size ≤ longest-name
   pub back : name-of (block-of (take size (drop start path))) ≡ take size (drop start path)
   pub named : Named (block-of (take size (drop start path)))
 
-pub next-name-met : (path : List ℕ) (at start size : ℕ) → ((i : ℕ) → getD path i 0 < 256) → all valid-name (names (drop at path)) ≡ true →
+pub next-name-met : (path : List ℕ) (at start size : ℕ) → ((i : ℕ) → getD path i 0 < 256) → valid-names (drop at path) ≡ true →
     next path at ≡ Named-next start size → Next-name path at start size
 next-name-met path at start size bytes v e =
     let s = next-splits path at start size e in
@@ -91,20 +82,10 @@ next-name-met path at start size bytes v e =
       named = block-named (take size (drop start path)) there;
     }
 
-named-block : (b : Block) → Named b → block-of (name-of b) ≡ b
-unfolding Named block-of
-named-block b n =
-    λ i. record {
-      first = getD (n i) 0 0;
-      second = getD (n i) 1 0;
-      third = getD (n i) 2 0;
-      fourth = getD (n i) 3 0;
-    }
-
 -- the block names its name, so that a place is the same either way
 pub place-there-and-back : (d : ℕ) (b : Block) → Named b → place-row (place-of d b) ≡ record { directory = d; name = b }
 unfolding place-row place-of
-place-there-and-back d b n = λ i. record { directory = d; name = named-block b n i }
+place-there-and-back d b n = λ i. record { directory = d; name = block-back b n i }
 
 -- the names that are left, where the next is known by its block
 module _ (path : List ℕ) (at start size : ℕ) (n : Next-name path at start size) (b : Block) (e : b ≡ block-of (take size (drop start path))) where
@@ -138,7 +119,7 @@ node-met {w} {t = t} ready b e f = f ∙ rw e (node-found-there w (place-of (t .
 -- a link followed alone, by the row of its entry and by its place
 link-alone : (w : List ℕ) (t : Trail) (b : Block) (target : List ℕ) →
     link-walked w t (row-found w (place-of (t .directory) b)) target
-    ≡ continued (row-found w) t (follow (jump-within (unpack w .entries) (unpack w .nodes) true (8 - t .count)) (place-of (t .directory) b) target [])
+    ≡ continued (row-found w) t (follow (jump-within (unpack w .entries) (unpack w .nodes) true (8 - t .count)) (place-of (t .directory) b) target [] .outcome)
 unfolding link-walked walked-from continued place-of
 link-alone w t b target = go (ltb (t .count) 8) refl
   where
@@ -146,7 +127,7 @@ link-alone w t b target = go (ltb (t .count) 8) refl
     place = place-of (t .directory) b
 
     alone : Outcome Goal
-    alone = follow (jump-within (unpack w .entries) (unpack w .nodes) true (8 - t .count)) place target []
+    alone = follow (jump-within (unpack w .entries) (unpack w .nodes) true (8 - t .count)) place target [] .outcome
 
     inside : Outcome Goal
     inside = walk-within (unpack w .entries) (unpack w .nodes) true (8 - (t .count + 1)) (start (t .directory) target) (names target)
@@ -188,7 +169,7 @@ module _ (w : List ℕ) (walkable : Walkable (unpack w .entries) (unpack w .node
 -- Where the loop over names stands: what is left of the path, from the trail, comes to what the whole of it comes to.
 pub record Walking (w heads next path : List ℕ) (follow-last : Bool) (from : Trail) (at : ℕ) (trail : Trail) : Type 0 where
   pub ready : Ready w heads next trail
-  pub valid : all valid-name (names (drop at path)) ≡ true
+  pub valid : valid-names (drop at path) ≡ true
   pub more : from .count ≤ trail .count
   pub same : walked-from w follow-last trail (names (drop at path)) ≡ walked-from w follow-last from (names path)
 
@@ -278,31 +259,31 @@ module _ {w heads next path : List ℕ} {follow-last : Bool} {from : Trail} {at 
 pub record Target-read (w : List ℕ) (node n : ℕ) (bytes : List ℕ) : Type 0 where
   pub good : Good-target (node-at (unpack w .nodes) node .target)
   pub count : n ≡ length (node-at (unpack w .nodes) node .target)
-  pub room : length bytes ≡ 64
+  pub room : length bytes ≡ longest-target
   pub whole : take n bytes ≡ node-at (unpack w .nodes) node .target
   pub first : getD bytes 0 0 ≡ getD (node-at (unpack w .nodes) node .target) 0 0
 
 module _ (w : List ℕ) (walkable : Walkable (unpack w .entries) (unpack w .nodes)) (node : ℕ) (kind : node-at (unpack w .nodes) node .kind ≡ a-link) where
-  pub link-in-range : (node ≢ 0) × (node ≤ 256)
+  pub link-in-range : (node ≢ 0) × (node ≤ node-rows)
   unfolding free-node
   link-in-range =
       let used : free-node (node-at (unpack w .nodes) node) ≡ false = rw kind in
       let range = used-in-range (unpack w .nodes) node used in
       (range .0, omega (arith, nodes-full w, range .1))
 
-  pub target-read : (n : ℕ) (bytes : List ℕ) → n ≡ length (node-row w (node - 1) .target) → bytes ≡ filled 64 (node-row w (node - 1) .target) →
+  pub target-read : (n : ℕ) (bytes : List ℕ) → n ≡ length (node-row w (node - 1) .target) → bytes ≡ filled longest-target (node-row w (node - 1) .target) →
       Target-read w node n bytes
   target-read n bytes p q =
       let same = node-in-row (unpack w .nodes) node (let z = link-in-range .0 in omega arith) in
       let target = node-at (unpack w .nodes) node .target in
       let good = good-target target (walkable .target node kind) in
       let count : n ≡ length target = p ∙ ap (λ (x : Node). length (x .target)) (sym same) in
-      let filled-is : bytes ≡ filled 64 target = q ∙ ap (λ (x : Node). filled 64 (x .target)) (sym same) in
-      let whole : take n bytes ≡ target = (λ i. take (count i) (filled-is i)) ∙ filled-front 64 target (good .short) in
+      let filled-is : bytes ≡ filled longest-target target = q ∙ ap (λ (x : Node). filled longest-target (x .target)) (sym same) in
+      let whole : take n bytes ≡ target = (λ i. take (count i) (filled-is i)) ∙ filled-front longest-target target (good .short) in
       record {
         good = good;
         count = count;
-        room = ap length filled-is ∙ filled-length 64 target;
+        room = ap length filled-is ∙ filled-length longest-target target;
         whole = whole;
         first = sym (first-of-part n bytes (omega (arith, good .long))) ∙ ap (λ (l : List ℕ). getD l 0 0) whole;
       }

@@ -9,10 +9,10 @@ use lib.Seq.{sets}
 use Rattle.model.specs.Refusals.{Outcome, refused, granted}
 use Rattle.model.specs.Paths.{Name, names}
 use Rattle.model.specs.Tables as model-tables
-use Rattle.model.specs.Tables.{Node, a-directory, entry-rows, node-at, is-directory}
+use Rattle.model.specs.Tables.{Entry as Entry-row, Node, a-directory, entry-rows, node-at, is-directory}
 use Rattle.model.specs.Words.{unpack}
 use Rattle.model.specs.Sound.{sound-rows}
-use Rattle.model.specs.Walk.{Goal, start, walk-within}
+use Rattle.model.specs.Walk.{Goal, found, start, trip-within}
 use Rattle.laws.specs.Each.{Each}
 use Rattle.rows.specs.Stands.{entry-row}
 use Rattle.index.specs.Indexed.{Indexed, row-found}
@@ -66,6 +66,10 @@ through t found begin = record { directory = begin; count = t .count + 1; rows =
 -- a walk that goes on from where it stopped
 unfoldable pub onward-from : Stretch → Trail
 onward-from met = record { directory = node-at-end (met .stop); count = met .count; rows = met .rows }
+
+-- Walking a path: how names end from a directory, with so many links to follow
+abbrev pub walk-within : List Entry-row → List Node → Bool → ℕ → ℕ → List Name → Outcome Goal
+walk-within entries nodes follow-last k d ns = trip-within (found entries nodes) follow-last k d ns .outcome
 
 -- Walking a path: names, from where the trail has come to
 unfoldable pub walked-from : List ℕ → Bool → Trail → List Name → Stretch

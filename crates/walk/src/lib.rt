@@ -9,8 +9,7 @@ ghost use Prim.Native.Nat.{_<_};
 ghost use lib.Dec.{eqb};
 ghost use lib.ListN.{replicate, take};
 ghost use lib.Seq.{sets};
-ghost use Rattle.model.specs.Lists.{all};
-ghost use Rattle.model.specs.Paths.{names, slash, valid-name, valid-path};
+ghost use Rattle.model.specs.Paths.{names, slash, valid-names, valid-path};
 ghost use Rattle.model.specs.Tables.{a-link, node-at};
 ghost use Rattle.model.specs.Words.{unpack};
 ghost use Rattle.model.specs.Refusals.{refused};
@@ -32,6 +31,7 @@ use model::NAME_IS_FILE;
 use model::NAME_MISSING;
 use model::NINTH_LINK;
 use paths::Next;
+use paths::SLASH;
 use paths::next_name;
 use rows::Block;
 use rows::DIRECTORY;
@@ -45,8 +45,6 @@ use rows::node_kind;
 use rows::target_in;
 
 const LINKS: usize = 8;
-
-const SLASH: u8 = b'/';
 
 // How far a walk has come: the directory that it stands in, and the links followed so far, in the order met, each by one more than the row of
 // its entry. Unused room is 0.
@@ -102,7 +100,7 @@ fn walk_names(
     from: Trail,
 ) -> Stretch
     requires ready { ⌜ Ready (now words) (now heads) (now next) from ⌝ }
-    requires valid { ⌜ all valid-name (names (now path)) ≡ true ⌝ }
+    requires valid { ⌜ valid-names (now path) ≡ true ⌝ }
     ensures { λ r. ⌜ r ≡ walked-from (now (words .entry)) «follow_last» from (names (now (path .entry))) ⌝ }
 {
     let mut at = 0;

@@ -1,69 +1,68 @@
--- `creations::make` meets its contract: the walk, and the rest behind it. Assumes nothing.
+-- `creations::make` meets its contract: refused on the way, or what stands behind the walk. Assumes nothing.
 use mathlib.Core.Bool.{false}
 use native.Mathlib.Omega.{arith}
 use borrow.Author.Needs.{needs}
-use Rattle.model.specs.Calls.{make}
+use Rattle.model.specs.Calls.{make, make-at}
 use Rattle.model.specs.Words.{unpack}
-use Rattle.accepted.proofs.Accepting.{path2-within, slice-part, slice-short}
-use Rattle.accepted.proofs.Asking.{first-fits, first-passes, first-refuses}
-use Rattle.accepted.proofs.Walking.{target-as}
+use Rattle.records.specs.Reading.{part-of}
+use Rattle.reaching.proofs.Accepting.{path2-within, slice-part, slice-short}
+use Rattle.reaching.proofs.Ways.{came, goes-on, refused-on-the-way}
+use Rattle.creations.proofs.Entered.{target-as}
 use Rattle.creations.proofs.make.Statement.{statement}
 use Rattle.creations.proofs.make.Tie as tie
 
-reach-requires : tie.Need-reach-requires
-reach-requires c κs = search needs
-
-enum-known-stop : tie.Need-enum-known-stop
-enum-known-stop c = search needs
-
-same-length : tie.Need-same-length
-same-length c = search needs
-
-returns : tie.Need-returns
-unfolding make
-returns c = first-refuses (c .before .before .before .before .before .before .before .pre .0) (c .before .before .before .before .before .before .before .pre .1 .0) false (c .before .before .before .reach .ensures) _ (c .before .stop .given .1)
-
 add-end : tie.Need-add-end
-add-end c = omega (arith, path2-within (c .before .before .before .before .before .before .before .pre .0 .bytes) (c .before .before .before .before .before .before .before .pre .0 .read))
-
-sub-make-at : tie.Need-sub-make-at
-sub-make-at c = search needs
+add-end c =
+    let ready = c .before .before .before .before .before .before .before .pre .0 in
+    omega (arith, path2-within (ready .bytes) (ready .read))
 
 part-make-at-start : tie.Need-part-make-at-start
-part-make-at-start c = omega (arith, path2-within (c .before .before .before .before .before .before .before .before .pre .0 .bytes) (c .before .before .before .before .before .before .before .before .pre .0 .read))
+part-make-at-start c =
+    let reached = c .before .before .before .before .before .before .before in
+    let ready = reached .before .before .before .before .pre .0 in
+    omega (arith, path2-within (ready .bytes) (ready .read))
 
 part-make-at-end : tie.Need-part-make-at-end
-part-make-at-end c = omega (arith, path2-within (c .before .before .before .before .before .before .before .before .pre .0 .bytes) (c .before .before .before .before .before .before .before .before .pre .0 .read))
+part-make-at-end c =
+    let reached = c .before .before .before .before .before .before .before in
+    let ready = reached .before .before .before .before .pre .0 in
+    omega (arith, path2-within (ready .bytes) (ready .read))
 
 make-at-requires : tie.Need-make-at-requires
 make-at-requires c κs =
-    let given = c .before .before .before .before .before .before .before .before .before .pre in
-    let fits = first-fits (given .0) (given .1 .0) false (c .before .before .before .before .before .reach .ensures) in
-    let kinds = given .1 .1 in
-    (given .0 .indexed .stands, (fits .0, (fits .1, (kinds .0, (kinds .1 .0, slice-short (c .before .before .before .before .before .before .before .before .before .args .bytes .now) (c .before .before .before .before .before .before .before .before .before .args .fields .path2) (kinds .1 .1))))))
+    let told = c .before .before .before in
+    let reached = told .before .before .before .before .before in
+    let start = reached .before .before .before .before in
+    let kinds = start .pre .1 .1 in
+    let goal = came (start .pre .0) (start .pre .1 .0) false (reached .reach .ensures) (told .way2 .given .1) in
+    (goal .behind, (kinds .0, (kinds .1 .0, slice-short (start .args .bytes .now) (start .args .fields .path2) (kinds .1 .1))))
 
-same-length-2 : tie.Need-same-length-2
-same-length-2 c = search needs
+-- path 1 leads nowhere
+returns : tie.Need-returns
+unfolding make
+returns c =
+    let told = c .before in
+    let reached = told .before .before .before .before .before in
+    let start = reached .before .before .before .before in
+    refused-on-the-way (start .pre .0) (start .pre .1 .0) false (reached .reach .ensures) (told .way .given .1) _
 
+-- or to this goal, and the target's bytes are path 2
 returns-2 : tie.Need-returns-2
 unfolding make
 returns-2 c =
-    let given = c .before .before .before .before .before .before .before .before .before .before .before .before .args in
-    first-passes (c .before .before .before .before .before .before .before .before .before .before .before .before .pre .0) (c .before .before .before .before .before .before .before .before .before .before .before .before .pre .1 .0) false (c .before .before .before .before .before .before .before .before .reach .ensures) _ (c .before .before .before .before .before .before .before .match .keys2)
-    (target-as (given .kind) (unpack (given .words .now)) (given .fields .process) _ (slice-part (given .bytes .now) (given .fields .path2)) (c .before .before .make-at .ensures))
+    let done = c .before .before in
+    let told = done .before .before .before .before in
+    let reached = told .before .before .before .before .before in
+    let start = reached .before .before .before .before in
+    let t = unpack (start .args .words .now) in
+    let kind = start .args .kind in
+    let target = part-of (start .args .bytes .now) (start .args .fields .path2) in
+    let goal = came (start .pre .0) (start .pre .1 .0) false (reached .reach .ensures) (told .way2 .given .1) in
+    let bytes = slice-part (start .args .bytes .now) (start .args .fields .path2) in
+    goes-on goal (make-at kind target t) (target-as kind t _ _ bytes (done .make-at .ensures))
 
 pub make-spec : {M : Type 1} → statement M
 make-spec =
     tie.close
-    (tie.spec
-    reach-requires
-    enum-known-stop
-    same-length
-    returns
-    add-end
-    sub-make-at
-    part-make-at-start
-    part-make-at-end
-    make-at-requires
-    same-length-2
-    returns-2)
+    (tie.spec (λ c κs. search needs) add-end (λ c. search needs) (λ c. search needs) (λ c. search needs) part-make-at-start part-make-at-end
+    make-at-requires (λ c. search needs) returns (λ c. search needs) returns-2)

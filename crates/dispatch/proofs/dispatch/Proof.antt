@@ -1,306 +1,273 @@
--- `dispatch::dispatch` meets its contract: each number leads to its own call. Assumes nothing.
-use mathlib.Core.Path.{refl}
+-- `dispatch::dispatch` meets its contract: each number leads to its own call, and any other is refused with 2. Assumes nothing.
+use mathlib.Core.Path.{refl, _≡_}
+use mathlib.Core.Bool.{true}
+use Prim.Native.Nat.{ℕ}
 use borrow.Author.Needs.{needs}
 use Rattle.model.specs.Calls.{enter, exec, exit, fork}
-use Rattle.model.specs.Records.{calls, row-of}
+use Rattle.model.specs.Records.{Call, calls, known, row-of}
+use Rattle.model.specs.Tables.{Tables}
 use Rattle.model.specs.Words.{unpack}
-use Rattle.calls.proofs.Meeting.{meets-as}
-use Rattle.accepted.proofs.Accepting.{call-proper, child-counts, process-counts}
-use Rattle.dispatch.proofs.Arms.{no-other, step-check, step-create, step-enter, step-exec, step-exit, step-fork, step-link, step-look, step-mkdir, step-rmdir, step-symlink, step-unlink, step-use}
-use Rattle.accepted.proofs.Cells.{walks-by}
-use Rattle.accepted.proofs.Walking.{stands-sound}
-use Rattle.accepted.specs.Ready.{call-in}
+use Rattle.rows.specs.Stands.{Stands}
+use Rattle.rows.proofs.Meeting.{meets-as, refused-outright}
+use Rattle.reaching.proofs.Accepting.{child-counts, process-counts}
+use Rattle.reaching.proofs.Cells.{known-by, path2-by, walks-by}
+use Rattle.reaching.proofs.Walking.{stands-sound}
+use Rattle.reaching.specs.Ready.{Ready, Walks-twice, call-in}
+use Rattle.dispatch.proofs.Arms.{step-enter, step-fork, step-exec, step-exit, step-check, step-look, step-use, step-create, step-mkdir, step-symlink, step-link, step-unlink, step-rmdir, step-unknown}
 use Rattle.dispatch.proofs.dispatch.Statement.{statement}
 use Rattle.dispatch.proofs.dispatch.Tie as tie
 
+abbrev tables : tie.Start → Tables
+tables s = unpack (s .args .words .now)
+
+abbrev call : tie.Start → Call
+call s = call-in (s .args .bytes .now) (s .args .fields)
+
+-- a known number is a call's that was read
+ready : (s : tie.Start) (n : ℕ) → known n ≡ true → s .args .fields .call ≡ n →
+    Ready (s .args .words .now) (s .args .heads .now) (s .args .next .now) (s .args .bytes .now) (s .args .fields)
+ready s n there is = s .pre (known-by (s .args .fields) n there is)
+
+stands : (s : tie.Start) (n : ℕ) → known n ≡ true → s .args .fields .call ≡ n → Stands (s .args .words .now)
+stands s n there is = stands-sound (s .args .words .now) (ready s n there is .sound)
+
+-- WHAT IS CALLED
+
 enter-requires : tie.Need-enter-requires
+unfolding known row-of calls
 enter-requires c κs =
-    let start = c .before .before .before .before in
-    (stands-sound (start .args .words .now) (start .pre .sound), process-counts (start .pre .bytes) (start .pre .read))
+    let arm = c .before in
+    let start = arm .before .before .before in
+    let read = ready start 1 refl (arm .match .keys1) in
+    (stands start 1 refl (arm .match .keys1), process-counts (read .bytes) (read .read))
 
 fork-requires : tie.Need-fork-requires
+unfolding known row-of calls
 fork-requires c κs =
-    let start = c .before .before .before .before in
-    (stands-sound (start .args .words .now) (start .pre .sound), (process-counts (start .pre .bytes) (start .pre .read), child-counts (start .pre .bytes) (start .pre .read) (c .before .match .keys2)))
+    let arm = c .before in
+    let start = arm .before .before .before in
+    let read = ready start 2 refl (arm .match .keys2) in
+    (stands start 2 refl (arm .match .keys2), (process-counts (read .bytes) (read .read), child-counts (read .bytes) (read .read) (arm .match .keys2)))
 
 exec-requires : tie.Need-exec-requires
+unfolding known row-of calls
 exec-requires c κs =
-    let start = c .before .before .before .before in
-    stands-sound (start .args .words .now) (start .pre .sound)
+    let arm = c .before in
+    let start = arm .before .before .before in
+    stands start 3 refl (arm .match .keys3)
 
 exit-requires : tie.Need-exit-requires
+unfolding known row-of calls
 exit-requires c κs =
-    let start = c .before .before .before .before in
-    stands-sound (start .args .words .now) (start .pre .sound)
+    let arm = c .before in
+    let start = arm .before .before .before in
+    stands start 4 refl (arm .match .keys4)
 
 check-requires : tie.Need-check-requires
-unfolding row-of calls
+unfolding known row-of calls
 check-requires c κs =
-    let start = c .before .before .before .before in
-    (start .pre, walks-by (start .args .fields) 5 refl (c .before .match .keys5))
+    let arm = c .before in
+    let start = arm .before .before .before in
+    (ready start 5 refl (arm .match .keys5), walks-by (start .args .fields) 5 refl (arm .match .keys5))
 
 look-requires : tie.Need-look-requires
-unfolding row-of calls
+unfolding known row-of calls
 look-requires c κs =
-    let start = c .before .before .before .before in
-    (start .pre, walks-by (start .args .fields) 6 refl (c .before .match .keys6))
+    let arm = c .before in
+    let start = arm .before .before .before in
+    (ready start 6 refl (arm .match .keys6), walks-by (start .args .fields) 6 refl (arm .match .keys6))
 
 use-of-requires : tie.Need-use-of-requires
-unfolding row-of calls
+unfolding known row-of calls
 use-of-requires c κs =
-    let start = c .before .before .before .before in
-    (start .pre, walks-by (start .args .fields) 7 refl (c .before .match .keys7))
+    let arm = c .before in
+    let start = arm .before .before .before in
+    (ready start 7 refl (arm .match .keys7), walks-by (start .args .fields) 7 refl (arm .match .keys7))
 
 create-requires : tie.Need-create-requires
+unfolding known row-of calls
 create-requires c κs =
-    let start = c .before .before .before .before in
-    (start .pre, c .before .match .keys8)
+    let arm = c .before in
+    let start = arm .before .before .before in
+    let fields = start .args .fields in
+    (ready start 8 refl (arm .match .keys8), (walks-by fields 8 refl (arm .match .keys8), path2-by fields 8 refl (arm .match .keys8)))
 
 mkdir-requires : tie.Need-mkdir-requires
+unfolding known row-of calls
 mkdir-requires c κs =
-    let start = c .before .before .before .before in
-    (start .pre, c .before .match .keys9)
+    let arm = c .before in
+    let start = arm .before .before .before in
+    let fields = start .args .fields in
+    (ready start 9 refl (arm .match .keys9), (walks-by fields 9 refl (arm .match .keys9), path2-by fields 9 refl (arm .match .keys9)))
 
 symlink-requires : tie.Need-symlink-requires
+unfolding known row-of calls
 symlink-requires c κs =
-    let start = c .before .before .before .before in
-    (start .pre, c .before .match .keys10)
+    let arm = c .before in
+    let start = arm .before .before .before in
+    let fields = start .args .fields in
+    (ready start 10 refl (arm .match .keys10), (walks-by fields 10 refl (arm .match .keys10), path2-by fields 10 refl (arm .match .keys10)))
 
 link-requires : tie.Need-link-requires
+unfolding known row-of calls Walks-twice
 link-requires c κs =
-    let start = c .before .before .before .before in
-    (start .pre, c .before .match .keys11)
+    let arm = c .before in
+    let start = arm .before .before .before in
+    let fields = start .args .fields in
+    (ready start 11 refl (arm .match .keys11), (walks-by fields 11 refl (arm .match .keys11), path2-by fields 11 refl (arm .match .keys11)))
 
 unlink-requires : tie.Need-unlink-requires
-unfolding row-of calls
+unfolding known row-of calls
 unlink-requires c κs =
-    let start = c .before .before .before .before in
-    (start .pre, walks-by (start .args .fields) 12 refl (c .before .match .keys12))
+    let arm = c .before in
+    let start = arm .before .before .before in
+    (ready start 12 refl (arm .match .keys12), walks-by (start .args .fields) 12 refl (arm .match .keys12))
 
 rmdir-requires : tie.Need-rmdir-requires
-unfolding row-of calls
+unfolding known row-of calls
 rmdir-requires c κs =
-    let start = c .before .before .before .before in
-    (start .pre, walks-by (start .args .fields) 13 refl (c .before .match .keys13))
+    let arm = c .before in
+    let start = arm .before .before .before in
+    (ready start 13 refl (arm .match .keys13), walks-by (start .args .fields) 13 refl (arm .match .keys13))
 
-same-length : tie.Need-same-length
-same-length c = search needs
+-- WHAT IS ANSWERED
 
 returns : tie.Need-returns
 unfolding enter
 returns c =
-    let start = c .before .before .before .before .before .before .before in
-    meets-as (step-enter (unpack (start .args .words .now)) (call-in (start .args .bytes .now) (start .args .fields)) (c .before .before .before .before .match .keys1))
-    (c .before .before .enter .ensures)
-
-same-length-2 : tie.Need-same-length-2
-same-length-2 c = search needs
+    let done = c .before .before in
+    let arm = done .before .before in
+    let start = arm .before .before .before in
+    meets-as (step-enter (tables start) (call start) (arm .match .keys1)) (done .enter .ensures)
 
 returns-2 : tie.Need-returns-2
 unfolding fork
 returns-2 c =
-    let start = c .before .before .before .before .before .before .before in
-    meets-as (step-fork (unpack (start .args .words .now)) (call-in (start .args .bytes .now) (start .args .fields)) (c .before .before .before .before .match .keys2))
-    (c .before .before .fork .ensures)
-
-same-length-3 : tie.Need-same-length-3
-same-length-3 c = search needs
+    let done = c .before .before in
+    let arm = done .before .before in
+    let start = arm .before .before .before in
+    meets-as (step-fork (tables start) (call start) (arm .match .keys2)) (done .fork .ensures)
 
 returns-3 : tie.Need-returns-3
 unfolding exec
 returns-3 c =
-    let start = c .before .before .before .before .before .before .before in
-    meets-as (step-exec (unpack (start .args .words .now)) (call-in (start .args .bytes .now) (start .args .fields)) (c .before .before .before .before .match .keys3))
-    (c .before .before .exec .ensures)
-
-same-length-4 : tie.Need-same-length-4
-same-length-4 c = search needs
+    let done = c .before .before in
+    let arm = done .before .before in
+    let start = arm .before .before .before in
+    meets-as (step-exec (tables start) (call start) (arm .match .keys3)) (done .exec .ensures)
 
 returns-4 : tie.Need-returns-4
 unfolding exit
 returns-4 c =
-    let start = c .before .before .before .before .before .before .before in
-    meets-as (step-exit (unpack (start .args .words .now)) (call-in (start .args .bytes .now) (start .args .fields)) (c .before .before .before .before .match .keys4))
-    (c .before .before .exit .ensures)
-
-same-length-5 : tie.Need-same-length-5
-same-length-5 c = search needs
+    let done = c .before .before in
+    let arm = done .before .before in
+    let start = arm .before .before .before in
+    meets-as (step-exit (tables start) (call start) (arm .match .keys4)) (done .exit .ensures)
 
 returns-5 : tie.Need-returns-5
 returns-5 c =
-    let start = c .before .before .before .before .before .before .before in
-    meets-as (step-check (unpack (start .args .words .now)) (call-in (start .args .bytes .now) (start .args .fields)) (c .before .before .before .before .match .keys5))
-    (c .before .before .check .ensures)
-
-same-length-6 : tie.Need-same-length-6
-same-length-6 c = search needs
+    let done = c .before .before in
+    let arm = done .before .before in
+    let start = arm .before .before .before in
+    meets-as (step-check (tables start) (call start) (arm .match .keys5)) (done .check .ensures)
 
 returns-6 : tie.Need-returns-6
 returns-6 c =
-    let start = c .before .before .before .before .before .before .before in
-    meets-as (step-look (unpack (start .args .words .now)) (call-in (start .args .bytes .now) (start .args .fields)) (c .before .before .before .before .match .keys6))
-    (c .before .before .look .ensures)
-
-same-length-7 : tie.Need-same-length-7
-same-length-7 c = search needs
+    let done = c .before .before in
+    let arm = done .before .before in
+    let start = arm .before .before .before in
+    meets-as (step-look (tables start) (call start) (arm .match .keys6)) (done .look .ensures)
 
 returns-7 : tie.Need-returns-7
 returns-7 c =
-    let start = c .before .before .before .before .before .before .before in
-    meets-as (step-use (unpack (start .args .words .now)) (call-in (start .args .bytes .now) (start .args .fields)) (c .before .before .before .before .match .keys7))
-    (c .before .before .use-of .ensures)
-
-same-length-8 : tie.Need-same-length-8
-same-length-8 c = search needs
+    let done = c .before .before in
+    let arm = done .before .before in
+    let start = arm .before .before .before in
+    meets-as (step-use (tables start) (call start) (arm .match .keys7)) (done .use-of .ensures)
 
 returns-8 : tie.Need-returns-8
 returns-8 c =
-    let start = c .before .before .before .before .before .before .before in
-    meets-as (step-create (unpack (start .args .words .now)) (call-in (start .args .bytes .now) (start .args .fields)) (c .before .before .before .before .match .keys8))
-    (c .before .before .create .ensures)
-
-same-length-9 : tie.Need-same-length-9
-same-length-9 c = search needs
+    let done = c .before .before in
+    let arm = done .before .before in
+    let start = arm .before .before .before in
+    meets-as (step-create (tables start) (call start) (arm .match .keys8)) (done .create .ensures)
 
 returns-9 : tie.Need-returns-9
 returns-9 c =
-    let start = c .before .before .before .before .before .before .before in
-    meets-as (step-mkdir (unpack (start .args .words .now)) (call-in (start .args .bytes .now) (start .args .fields)) (c .before .before .before .before .match .keys9))
-    (c .before .before .mkdir .ensures)
-
-same-length-10 : tie.Need-same-length-10
-same-length-10 c = search needs
+    let done = c .before .before in
+    let arm = done .before .before in
+    let start = arm .before .before .before in
+    meets-as (step-mkdir (tables start) (call start) (arm .match .keys9)) (done .mkdir .ensures)
 
 returns-10 : tie.Need-returns-10
 returns-10 c =
-    let start = c .before .before .before .before .before .before .before in
-    meets-as (step-symlink (unpack (start .args .words .now)) (call-in (start .args .bytes .now) (start .args .fields)) (c .before .before .before .before .match .keys10))
-    (c .before .before .symlink .ensures)
-
-same-length-11 : tie.Need-same-length-11
-same-length-11 c = search needs
+    let done = c .before .before in
+    let arm = done .before .before in
+    let start = arm .before .before .before in
+    meets-as (step-symlink (tables start) (call start) (arm .match .keys10)) (done .symlink .ensures)
 
 returns-11 : tie.Need-returns-11
 returns-11 c =
-    let start = c .before .before .before .before .before .before .before in
-    meets-as (step-link (unpack (start .args .words .now)) (call-in (start .args .bytes .now) (start .args .fields)) (c .before .before .before .before .match .keys11))
-    (c .before .before .link .ensures)
-
-same-length-12 : tie.Need-same-length-12
-same-length-12 c = search needs
+    let done = c .before .before in
+    let arm = done .before .before in
+    let start = arm .before .before .before in
+    meets-as (step-link (tables start) (call start) (arm .match .keys11)) (done .link .ensures)
 
 returns-12 : tie.Need-returns-12
 returns-12 c =
-    let start = c .before .before .before .before .before .before .before in
-    meets-as (step-unlink (unpack (start .args .words .now)) (call-in (start .args .bytes .now) (start .args .fields)) (c .before .before .before .before .match .keys12))
-    (c .before .before .unlink .ensures)
-
-same-length-13 : tie.Need-same-length-13
-same-length-13 c = search needs
+    let done = c .before .before in
+    let arm = done .before .before in
+    let start = arm .before .before .before in
+    meets-as (step-unlink (tables start) (call start) (arm .match .keys12)) (done .unlink .ensures)
 
 returns-13 : tie.Need-returns-13
 returns-13 c =
-    let start = c .before .before .before .before .before .before .before in
-    meets-as (step-rmdir (unpack (start .args .words .now)) (call-in (start .args .bytes .now) (start .args .fields)) (c .before .before .before .before .match .keys13))
-    (c .before .before .rmdir .ensures)
+    let done = c .before .before in
+    let arm = done .before .before in
+    let start = arm .before .before .before in
+    meets-as (step-rmdir (tables start) (call start) (arm .match .keys13)) (done .rmdir .ensures)
 
 returns-14 : tie.Need-returns-14
 returns-14 c =
-    let start = c .before .before .before .before .before in
-    absurd (no-other (call-in (start .args .bytes .now) (start .args .fields)) (call-proper (start .pre .bytes) (start .pre .read))
-    (c .before .before .match .rest .0 .0 .0 .0 .0 .0 .0 .0 .0 .0 .0 .0 .1)
-    (c .before .before .match .rest .0 .0 .0 .0 .0 .0 .0 .0 .0 .0 .0 .1)
-    (c .before .before .match .rest .0 .0 .0 .0 .0 .0 .0 .0 .0 .0 .1)
-    (c .before .before .match .rest .0 .0 .0 .0 .0 .0 .0 .0 .0 .1)
-    (c .before .before .match .rest .0 .0 .0 .0 .0 .0 .0 .0 .1)
-    (c .before .before .match .rest .0 .0 .0 .0 .0 .0 .0 .1)
-    (c .before .before .match .rest .0 .0 .0 .0 .0 .0 .1)
-    (c .before .before .match .rest .0 .0 .0 .0 .0 .1)
-    (c .before .before .match .rest .0 .0 .0 .0 .1)
-    (c .before .before .match .rest .0 .0 .0 .1)
-    (c .before .before .match .rest .0 .0 .1)
-    (c .before .before .match .rest .0 .1)
-    (c .before .before .match .rest .1))
+    let arm = c .before .before in
+    let start = arm .before .before .before in
+    let rest = arm .match .rest in
+    meets-as
+    (step-unknown (tables start) (call start)
+    (rest .0 .0 .0 .0 .0 .0 .0 .0 .0 .0 .0 .0 .1) (rest .0 .0 .0 .0 .0 .0 .0 .0 .0 .0 .0 .1) (rest .0 .0 .0 .0 .0 .0 .0 .0 .0 .0 .1) (rest .0 .0 .0 .0 .0 .0 .0 .0 .0 .1)
+    (rest .0 .0 .0 .0 .0 .0 .0 .0 .1) (rest .0 .0 .0 .0 .0 .0 .0 .1) (rest .0 .0 .0 .0 .0 .0 .1) (rest .0 .0 .0 .0 .0 .1) (rest .0 .0 .0 .0 .1)
+    (rest .0 .0 .0 .1) (rest .0 .0 .1) (rest .0 .1) (rest .1))
+    (refused-outright _ _)
 
 returns-15 : tie.Need-returns-15
 returns-15 c =
-    let start = c .before .before .before .before in
-    absurd (no-other (call-in (start .args .bytes .now) (start .args .fields)) (call-proper (start .pre .bytes) (start .pre .read))
-    (c .before .match .rest .0 .0 .0 .0 .0 .0 .0 .0 .0 .0 .0 .0 .1)
-    (c .before .match .rest .0 .0 .0 .0 .0 .0 .0 .0 .0 .0 .0 .1)
-    (c .before .match .rest .0 .0 .0 .0 .0 .0 .0 .0 .0 .0 .1)
-    (c .before .match .rest .0 .0 .0 .0 .0 .0 .0 .0 .0 .1)
-    (c .before .match .rest .0 .0 .0 .0 .0 .0 .0 .0 .1)
-    (c .before .match .rest .0 .0 .0 .0 .0 .0 .0 .1)
-    (c .before .match .rest .0 .0 .0 .0 .0 .0 .1)
-    (c .before .match .rest .0 .0 .0 .0 .0 .1)
-    (c .before .match .rest .0 .0 .0 .0 .1)
-    (c .before .match .rest .0 .0 .0 .1)
-    (c .before .match .rest .0 .0 .1)
-    (c .before .match .rest .0 .1)
-    (c .before .match .rest .1))
+    let arm = c .before in
+    let start = arm .before .before .before in
+    let rest = arm .match .rest in
+    meets-as
+    (step-unknown (tables start) (call start)
+    (rest .0 .0 .0 .0 .0 .0 .0 .0 .0 .0 .0 .0 .1) (rest .0 .0 .0 .0 .0 .0 .0 .0 .0 .0 .0 .1) (rest .0 .0 .0 .0 .0 .0 .0 .0 .0 .0 .1) (rest .0 .0 .0 .0 .0 .0 .0 .0 .0 .1)
+    (rest .0 .0 .0 .0 .0 .0 .0 .0 .1) (rest .0 .0 .0 .0 .0 .0 .0 .1) (rest .0 .0 .0 .0 .0 .0 .1) (rest .0 .0 .0 .0 .0 .1) (rest .0 .0 .0 .0 .1)
+    (rest .0 .0 .0 .1) (rest .0 .0 .1) (rest .0 .1) (rest .1))
+    (refused-outright _ _)
 
 returns-16 : tie.Need-returns-16
 returns-16 c =
-    let start = c .before .before .before .before .before in
-    absurd (no-other (call-in (start .args .bytes .now) (start .args .fields)) (call-proper (start .pre .bytes) (start .pre .read))
-    (c .before .before .match .rest .0 .0 .0 .0 .0 .0 .0 .0 .0 .0 .0 .0 .1)
-    (c .before .before .match .rest .0 .0 .0 .0 .0 .0 .0 .0 .0 .0 .0 .1)
-    (c .before .before .match .rest .0 .0 .0 .0 .0 .0 .0 .0 .0 .0 .1)
-    (c .before .before .match .rest .0 .0 .0 .0 .0 .0 .0 .0 .0 .1)
-    (c .before .before .match .rest .0 .0 .0 .0 .0 .0 .0 .0 .1)
-    (c .before .before .match .rest .0 .0 .0 .0 .0 .0 .0 .1)
-    (c .before .before .match .rest .0 .0 .0 .0 .0 .0 .1)
-    (c .before .before .match .rest .0 .0 .0 .0 .0 .1)
-    (c .before .before .match .rest .0 .0 .0 .0 .1)
-    (c .before .before .match .rest .0 .0 .0 .1)
-    (c .before .before .match .rest .0 .0 .1)
-    (c .before .before .match .rest .0 .1)
-    (c .before .before .match .rest .1))
+    let arm = c .before .before in
+    let start = arm .before .before .before in
+    let rest = arm .match .rest in
+    meets-as
+    (step-unknown (tables start) (call start)
+    (rest .0 .0 .0 .0 .0 .0 .0 .0 .0 .0 .0 .0 .1) (rest .0 .0 .0 .0 .0 .0 .0 .0 .0 .0 .0 .1) (rest .0 .0 .0 .0 .0 .0 .0 .0 .0 .0 .1) (rest .0 .0 .0 .0 .0 .0 .0 .0 .0 .1)
+    (rest .0 .0 .0 .0 .0 .0 .0 .0 .1) (rest .0 .0 .0 .0 .0 .0 .0 .1) (rest .0 .0 .0 .0 .0 .0 .1) (rest .0 .0 .0 .0 .0 .1) (rest .0 .0 .0 .0 .1)
+    (rest .0 .0 .0 .1) (rest .0 .0 .1) (rest .0 .1) (rest .1))
+    (refused-outright _ _)
 
 pub dispatch-spec : {M : Type 1} → statement M
 dispatch-spec =
     tie.close
-    (tie.spec
-    enter-requires
-    fork-requires
-    exec-requires
-    exit-requires
-    check-requires
-    look-requires
-    use-of-requires
-    create-requires
-    mkdir-requires
-    symlink-requires
-    link-requires
-    unlink-requires
-    rmdir-requires
-    same-length
-    returns
-    same-length-2
-    returns-2
-    same-length-3
-    returns-3
-    same-length-4
-    returns-4
-    same-length-5
-    returns-5
-    same-length-6
-    returns-6
-    same-length-7
-    returns-7
-    same-length-8
-    returns-8
-    same-length-9
-    returns-9
-    same-length-10
-    returns-10
-    same-length-11
-    returns-11
-    same-length-12
-    returns-12
-    same-length-13
-    returns-13
-    returns-14
-    returns-15
-    returns-16)
+    (tie.spec enter-requires fork-requires exec-requires exit-requires check-requires look-requires use-of-requires create-requires mkdir-requires
+    symlink-requires link-requires unlink-requires rmdir-requires (λ c. search needs) returns (λ c. search needs) returns-2 (λ c. search needs)
+    returns-3 (λ c. search needs) returns-4 (λ c. search needs) returns-5 (λ c. search needs) returns-6 (λ c. search needs) returns-7
+    (λ c. search needs) returns-8 (λ c. search needs) returns-9 (λ c. search needs) returns-10 (λ c. search needs) returns-11 (λ c. search needs)
+    returns-12 (λ c. search needs) returns-13 returns-14 returns-15 returns-16)

@@ -12,42 +12,46 @@ use Rattle.edits.proofs.add_one_entry.Statement.{statement}
 use Rattle.edits.proofs.add_one_entry.Tie as tie
 
 returns : tie.Need-returns
-returns c = no-node-set (c .before .before .pre .0) (c .before .before .args .node) (inl (c .if1 .taken)) (one-more (node-at (unpack (c .before .before .args .words .now) .nodes) (c .before .before .args .node)))
+returns c =
+    let start = c .before .before in
+    let node = start .args .node in
+    no-node-set (start .pre .0) node (inl (c .if1 .taken)) (one-more (node-at (unpack (start .args .words .now) .nodes) node))
 
 returns-2 : tie.Need-returns-2
-returns-2 c = no-node-set (c .before .before .before .pre .0) (c .before .before .before .args .node) (inr (c .if2 .taken)) (one-more (node-at (unpack (c .before .before .before .args .words .now) .nodes) (c .before .before .before .args .node)))
-
-sub-count-in : tie.Need-sub-count-in
-sub-count-in c = search needs
-
-count-in-requires : tie.Need-count-in-requires
-count-in-requires c κs = search needs
-
-sub-set-count : tie.Need-sub-set-count
-sub-set-count c = search needs
+returns-2 c =
+    let start = c .before .before .before in
+    let node = start .args .node in
+    no-node-set (start .pre .0) node (inr (c .if2 .taken)) (one-more (node-at (unpack (start .args .words .now) .nodes) node))
 
 add-set-count : tie.Need-add-set-count
-add-set-count c = omega (arith, ap (λ (x : Node). x .count) (node-in-row (unpack (c .before .before .before .before .before .before .args .words .now) .nodes) (c .before .before .before .before .before .before .args .node) (omega arith)))
+add-set-count c =
+    let start = c .before .before .before .before .before .before in
+    omega (arith, ap (λ (x : Node). x .count) (node-in-row (unpack (start .args .words .now) .nodes) (start .args .node) (omega arith)))
 
 set-count-requires : tie.Need-set-count-requires
-set-count-requires c κs = (c .before .before .before .before .before .before .pre .0, (omega arith, (omega (arith, ap (λ (x : Node). x .kind) (node-in-row (unpack (c .before .before .before .before .before .before .args .words .now) .nodes) (c .before .before .before .before .before .before .args .node) (omega arith))), omega (arith, ap (λ (x : Node). x .count) (node-in-row (unpack (c .before .before .before .before .before .before .args .words .now) .nodes) (c .before .before .before .before .before .before .args .node) (omega arith))))))
-
-same-length : tie.Need-same-length
-same-length c = search needs
+set-count-requires c κs =
+    let start = c .before .before .before .before .before .before in
+    let w = start .args .words .now in
+    let node = start .args .node in (
+      start .pre .0,
+      (
+        omega arith,
+        (
+          omega (arith, ap (λ (x : Node). x .kind) (node-in-row (unpack w .nodes) node (omega arith))),
+          omega
+              (arith, ap (λ (x : Node). x .count) (node-in-row (unpack w .nodes) node (omega arith))),
+        ),
+      ),
+    )
 
 returns-3 : tie.Need-returns-3
-returns-3 c = one-more-set (c .before .before .before .before .before .before .before .before .before .pre .0) (c .before .before .before .before .before .before .before .before .before .args .node) (omega arith) (c .before .before .before .before .count-in .ensures) (c .before .before .set-count .ensures)
+returns-3 c =
+    let after-set-count = c .before .before in
+    let after-count-in = after-set-count .before .before in
+    let start = after-count-in .before .before .before .before .before in
+    one-more-set (start .pre .0) (start .args .node) (omega arith) (after-count-in .count-in .ensures) (after-set-count .set-count .ensures)
 
 pub add-one-entry-spec : {M : Type 1} → statement M
 add-one-entry-spec =
-    tie.close
-    (tie.spec
-    returns
-    returns-2
-    sub-count-in
-    count-in-requires
-    sub-set-count
-    add-set-count
-    set-count-requires
-    same-length
+    tie.close (tie.spec returns returns-2 (λ c. search needs) (λ c κs. search needs) (λ c. search needs) add-set-count set-count-requires (λ c. search needs)
     returns-3)

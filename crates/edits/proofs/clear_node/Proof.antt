@@ -4,35 +4,12 @@ use Rattle.edits.proofs.Written.{clear-node-is}
 use Rattle.edits.proofs.clear_node.Statement.{statement}
 use Rattle.edits.proofs.clear_node.Tie as tie
 
-sub-put-zeros : tie.Need-sub-put-zeros
-sub-put-zeros c = search needs
-
-part-put-zeros-start : tie.Need-part-put-zeros-start
-part-put-zeros-start c = search needs
-
-part-put-zeros-end : tie.Need-part-put-zeros-end
-part-put-zeros-end c = search needs
-
-mul-put-zeros : tie.Need-mul-put-zeros
-mul-put-zeros c = search needs
-
-put-zeros-requires : tie.Need-put-zeros-requires
-put-zeros-requires c κs = search needs
-
-same-length : tie.Need-same-length
-same-length c = search needs
-
 returns : tie.Need-returns
-returns c = clear-node-is (c .before .before .before .before .before .pre .0) (c .before .before .before .before .before .args .row) (c .before .before .before .before .before .pre .1) (c .before .before .put-zeros .ensures)
+returns c =
+    let after-put-zeros = c .before .before in
+    let start = after-put-zeros .before .before .before in
+    clear-node-is (start .pre .0) (start .args .row) (start .pre .1) (after-put-zeros .put-zeros .ensures)
 
 pub clear-node-spec : {M : Type 1} → statement M
 clear-node-spec =
-    tie.close
-    (tie.spec
-    sub-put-zeros
-    part-put-zeros-start
-    part-put-zeros-end
-    mul-put-zeros
-    put-zeros-requires
-    same-length
-    returns)
+    tie.close (tie.spec (λ c. search needs) (λ c. search needs) (λ c. search needs) (λ c. search needs) (λ c κs. search needs) (λ c. search needs) returns)

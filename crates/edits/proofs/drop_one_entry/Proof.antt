@@ -12,66 +12,57 @@ use Rattle.edits.proofs.drop_one_entry.Statement.{statement}
 use Rattle.edits.proofs.drop_one_entry.Tie as tie
 
 returns : tie.Need-returns
-returns c = no-node-set (c .before .before .pre) (c .before .before .args .node) (inl (c .if1 .taken)) (one-less (node-at (unpack (c .before .before .args .words .now) .nodes) (c .before .before .args .node)))
+returns c =
+    let start = c .before .before in
+    let node = start .args .node in
+    no-node-set (start .pre) node (inl (c .if1 .taken)) (one-less (node-at (unpack (start .args .words .now) .nodes) node))
 
 returns-2 : tie.Need-returns-2
-returns-2 c = no-node-set (c .before .before .before .pre) (c .before .before .before .args .node) (inr (c .if2 .taken)) (one-less (node-at (unpack (c .before .before .before .args .words .now) .nodes) (c .before .before .before .args .node)))
-
-sub-count-in : tie.Need-sub-count-in
-sub-count-in c = search needs
-
-count-in-requires : tie.Need-count-in-requires
-count-in-requires c κs = search needs
-
-same-length : tie.Need-same-length
-same-length c = search needs
+returns-2 c =
+    let start = c .before .before .before in
+    let node = start .args .node in
+    no-node-set (start .pre) node (inr (c .if2 .taken)) (one-less (node-at (unpack (start .args .words .now) .nodes) node))
 
 returns-3 : tie.Need-returns-3
-returns-3 c = one-less-none (c .before .before .before .before .before .before .pre) (c .before .before .before .before .before .before .args .node) (omega arith) (c .before .count-in .ensures) (c .if3 .taken)
-
-sub-clear-node : tie.Need-sub-clear-node
-sub-clear-node c = search needs
-
-clear-node-requires : tie.Need-clear-node-requires
-clear-node-requires c κs = search needs
-
-same-length-2 : tie.Need-same-length-2
-same-length-2 c = search needs
+returns-3 c =
+    let after-count-in = c .before in
+    let start = after-count-in .before .before .before .before .before in
+    one-less-none (start .pre) (start .args .node) (omega arith) (after-count-in .count-in .ensures) (c .if3 .taken)
 
 returns-4 : tie.Need-returns-4
-returns-4 c = one-less-last (c .before .before .before .before .before .before .before .before .before .before .before .pre) (c .before .before .before .before .before .before .before .before .before .before .before .args .node) (omega arith) (c .before .before .before .before .before .before .count-in .ensures) (c .before .before .before .before .if4 .taken) (c .before .before .clear-node .ensures)
-
-sub-set-count : tie.Need-sub-set-count
-sub-set-count c = search needs
-
-sub-set-count-2 : tie.Need-sub-set-count-2
-sub-set-count-2 c = search needs
+returns-4 c =
+    let after-clear-node = c .before .before in
+    let test-4 = after-clear-node .before .before in
+    let after-count-in = test-4 .before .before in
+    let start = after-count-in .before .before .before .before .before in
+    one-less-last (start .pre) (start .args .node) (omega arith) (after-count-in .count-in .ensures) (test-4 .if4 .taken)
+    (after-clear-node .clear-node .ensures)
 
 set-count-requires : tie.Need-set-count-requires
-set-count-requires c κs = (c .before .before .before .before .before .before .before .before .pre, (omega arith, (counted-used (c .before .before .before .before .before .before .before .before .pre) (c .before .before .before .before .before .before .before .before .args .node) (c .before .before .before .before .before .before .before .before .args .node - 1) (omega arith), omega (arith, node-row-fits (c .before .before .before .before .before .before .before .before .args .words .now) (c .before .before .before .before .before .before .before .before .args .node - 1) .count))))
-
-same-length-3 : tie.Need-same-length-3
-same-length-3 c = search needs
+set-count-requires c κs =
+    let start = c .before .before .before .before .before .before .before .before in
+    let node = start .args .node in (
+      start .pre,
+      (
+        omega arith,
+        (
+          counted-used (start .pre) node (node - 1) (omega arith),
+          omega
+              (arith, node-row-fits (start .args .words .now) (node - 1) .count),
+        ),
+      ),
+    )
 
 returns-5 : tie.Need-returns-5
-returns-5 c = one-less-set (c .before .before .before .before .before .before .before .before .before .before .before .pre) (c .before .before .before .before .before .before .before .before .before .before .before .args .node) (omega arith) (c .before .before .before .before .before .before .count-in .ensures) (c .before .before .before .before .if4 .left) (c .before .before .set-count .ensures)
+returns-5 c =
+    let after-set-count = c .before .before in
+    let test-4 = after-set-count .before .before in
+    let after-count-in = test-4 .before .before in
+    let start = after-count-in .before .before .before .before .before in
+    one-less-set (start .pre) (start .args .node) (omega arith) (after-count-in .count-in .ensures) (test-4 .if4 .left)
+    (after-set-count .set-count .ensures)
 
 pub drop-one-entry-spec : {M : Type 1} → statement M
 drop-one-entry-spec =
-    tie.close
-    (tie.spec
-    returns
-    returns-2
-    sub-count-in
-    count-in-requires
-    same-length
-    returns-3
-    sub-clear-node
-    clear-node-requires
-    same-length-2
-    returns-4
-    sub-set-count
-    sub-set-count-2
-    set-count-requires
-    same-length-3
-    returns-5)
+    tie.close (tie.spec returns returns-2 (λ c. search needs) (λ c κs. search needs) (λ c. search needs) returns-3 (λ c. search needs) (λ c κs. search needs)
+    (λ c. search needs) returns-4 (λ c. search needs) (λ c. search needs) set-count-requires (λ c. search needs) returns-5)

@@ -9,64 +9,52 @@ use Rattle.edits.proofs.Written.{target-word-is}
 use Rattle.laws.proofs.Loops.{store-done, store-onward, store-start}
 use Rattle.laws.proofs.Pieces.{filled-length, words-length}
 use Rattle.model.specs.Lists.{filled}
-use Rattle.model.specs.Tables.{at}
 use Rattle.model.specs.Words.{words}
+use Rattle.model.specs.Paths.{longest-target}
+use Rattle.rows.specs.Blocks.{target-words}
 use Rattle.edits.proofs.put_target.Statement.{statement}
 use Rattle.edits.proofs.put_target.Tie as tie
 
 abbrev Inv-loop : tie.InvT-loop
-Inv-loop nodes₀ at target k₀ nodes k = (k ≤ 16) × ((length nodes ≡ length nodes₀) × (sets nodes (at + k) (drop k (words (filled 64 target))) ≡ sets nodes₀ at (words (filled 64 target))))
+Inv-loop nodes₀ at target k₀ nodes k =
+    (k ≤ target-words) × ((length nodes ≡ length nodes₀) ×
+    (sets nodes (at + k) (drop k (words (filled longest-target target))) ≡ sets nodes₀ at (words (filled longest-target target))))
 
 abbrev μ-loop : tie.MeasureT-loop
-μ-loop nodes₀ at target k₀ nodes k = 16 - k
+μ-loop nodes₀ at target k₀ nodes k = target-words - k
 
 loop-holds : tie.Need-loop-holds Inv-loop μ-loop
-loop-holds c = (search needs, (refl, store-start (c .before .before .args .at) (words (filled 64 (c .before .before .args .target .now))) (c .before .before .args .nodes .now)))
-
-mul-four-bytes : tie.Need-mul-four-bytes Inv-loop μ-loop
-mul-four-bytes c = omega arith
+loop-holds c =
+    let start = c .before .before in
+    (search needs, (refl, store-start (start .args .at) (words (filled longest-target (start .args .target .now))) (start .args .nodes .now)))
 
 four-bytes-requires : tie.Need-four-bytes-requires Inv-loop μ-loop
 four-bytes-requires c κs = (omega arith, omega arith)
 
-add-nodes : tie.Need-add-nodes Inv-loop μ-loop
-add-nodes c = omega arith
-
-mul-nodes : tie.Need-mul-nodes Inv-loop μ-loop
-mul-nodes c = omega arith
-
-slice-write-nodes : tie.Need-slice-write-nodes Inv-loop μ-loop
-slice-write-nodes c = omega arith
-
-add-k : tie.Need-add-k Inv-loop μ-loop
-add-k c = omega arith
-
-loop-less : tie.Need-loop-less Inv-loop μ-loop
-loop-less c = omega arith
-
 loop-again : tie.Need-loop-again Inv-loop μ-loop
-loop-again c = (omega arith, (simp length-set (c .before .before .loop .inv .1 .0), store-onward (c .before .before .before .before .before .args .at) (words (filled 64 (c .before .before .before .before .before .args .target .now))) (c .before .before .loop .nodes) (c .before .before .loop .k) 0 (omega (arith, words-length 16 (filled 64 (c .before .before .before .before .before .args .target .now)) (filled-length 64 (c .before .before .before .before .before .args .target .now)))) (target-word-is (c .before .before .before .before .before .args .target .now) (c .before .before .loop .k) (c .before .loop-test .taken) (c .four-bytes .ensures)) (c .before .before .loop .inv .1 .1)))
-
-same-length : tie.Need-same-length Inv-loop μ-loop
-same-length c = omega arith
+loop-again c =
+    let tested = c .before in
+    let here = tested .before in
+    let start = here .before .before .before in
+    let target = start .args .target .now in (
+      omega arith,
+      (
+        simp length-set (here .loop .inv .1 .0),
+        store-onward (start .args .at) (words (filled longest-target target)) (here .loop .nodes)
+            (here .loop .k) 0 (omega (arith, words-length target-words (filled longest-target target) (filled-length longest-target target)))
+            (target-word-is target (here .loop .k) (tested .loop-test .taken) (c .four-bytes .ensures)) (here .loop .inv .1 .1),
+      ),
+    )
 
 returns : tie.Need-returns Inv-loop μ-loop
-returns c = store-done (c .before .before .before .before .args .at) (words (filled 64 (c .before .before .before .before .args .target .now))) (c .before .loop .nodes) (c .before .loop .k) (omega (arith, words-length 16 (filled 64 (c .before .before .before .before .args .target .now)) (filled-length 64 (c .before .before .before .before .args .target .now)))) (c .before .loop .inv .1 .1)
+returns c =
+    let here = c .before in
+    let start = here .before .before .before in
+    let target = start .args .target .now in
+    store-done (start .args .at) (words (filled longest-target target)) (here .loop .nodes) (here .loop .k)
+    (omega (arith, words-length target-words (filled longest-target target) (filled-length longest-target target))) (here .loop .inv .1 .1)
 
 pub put-target-spec : {M : Type 1} → statement M
 put-target-spec =
-    tie.close
-    (tie.spec
-    Inv-loop
-    μ-loop
-    loop-holds
-    mul-four-bytes
-    four-bytes-requires
-    add-nodes
-    mul-nodes
-    slice-write-nodes
-    add-k
-    loop-less
-    loop-again
-    same-length
-    returns)
+    tie.close (tie.spec Inv-loop μ-loop loop-holds (λ c. omega arith) four-bytes-requires (λ c. omega arith) (λ c. omega arith) (λ c. omega arith)
+    (λ c. omega arith) (λ c. omega arith) loop-again (λ c. omega arith) returns)

@@ -5,34 +5,28 @@ use borrow.Author.Needs.{needs}
 use Rattle.exports.proofs.tickbutton_read.Statement.{statement}
 use Rattle.exports.proofs.tickbutton_read.Tie as tie
 
-read-requires : tie.Need-read-requires
-read-requires c κs = search needs
-
-enum-known-found : tie.Need-enum-known-found
-enum-known-found c = search needs
-
 put-fields-requires : tie.Need-put-fields-requires
 put-fields-requires c κs = accepted-as _ _ _ (sym (c .before .before .before .before .read .ensures) ∙ c .before .before .found .given .1) .small
 
-cast-told : tie.Need-cast-told
-cast-told c = search needs
-
 told-requires : tie.Need-told-requires
-told-requires c κs = (search needs, search needs, accepted-as _ _ _ (sym (c .before .before .before .before .before .before .read .ensures) ∙ c .before .before .before .before .found .given .1) .few)
-
-enum-known-number : tie.Need-enum-known-number
-enum-known-number c = search needs
-
-cast-told-2 : tie.Need-cast-told-2
-cast-told-2 c = search needs
+told-requires c κs =
+    let accepted = c .before .before .before .before in
+    let read-done = accepted .before .before in
+    (search needs, search needs, accepted-as _ _ _ (sym (read-done .read .ensures) ∙ accepted .found .given .1) .few)
 
 told-requires-2 : tie.Need-told-requires-2
-told-requires-2 c κs = (search needs, search needs, refused-as _ _ _ (sym (c .before .before .before .before .read .ensures) ∙ c .before .before .number .given .1) .few)
+told-requires-2 c κs =
+    let refused = c .before .before in
+    let read-done = refused .before .before in
+    (search needs, search needs, refused-as _ _ _ (sym (read-done .read .ensures) ∙ refused .number .given .1) .few)
 
 returns : tie.Need-returns
 returns c =
-    let a = accepted-as _ _ _ (sym (c .before .before .before .before .before .before .before .read .ensures) ∙ c .before .before .before .before .before .found .given .1) in
-    record { answer = c .told .ensures ∙ a .number; numbers = c .before .before .put-fields .ensures ∙ a .numbers }
+    let fields-put = c .before .before in
+    let accepted = fields-put .before .before .before in
+    let read-done = accepted .before .before in
+    let a = accepted-as _ _ _ (sym (read-done .read .ensures) ∙ accepted .found .given .1) in
+    record { answer = c .told .ensures ∙ a .number; numbers = fields-put .put-fields .ensures ∙ a .numbers }
 
 returns-2 : tie.Need-returns-2
 returns-2 c =
@@ -42,14 +36,5 @@ returns-2 c =
 pub tickbutton-read-spec : {M : Type 1} → statement M
 tickbutton-read-spec =
     tie.close
-    (tie.spec
-    read-requires
-    enum-known-found
-    put-fields-requires
-    cast-told
-    told-requires
-    enum-known-number
-    cast-told-2
-    told-requires-2
-    returns
-    returns-2)
+    (tie.spec (λ c κs. search needs) (λ c. search needs) put-fields-requires (λ c. search needs) told-requires (λ c. search needs) (λ c. search needs)
+    told-requires-2 returns returns-2)

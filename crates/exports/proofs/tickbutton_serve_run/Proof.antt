@@ -6,15 +6,6 @@ use Rattle.model.specs.Serve.{Ran}
 use Rattle.exports.proofs.tickbutton_serve_run.Statement.{statement}
 use Rattle.exports.proofs.tickbutton_serve_run.Tie as tie
 
-serve-run-requires : tie.Need-serve-run-requires
-serve-run-requires c κs = search needs
-
-same-length : tie.Need-same-length
-same-length c = search needs
-
-same-length-2 : tie.Need-same-length-2
-same-length-2 c = search needs
-
 returns : tie.Need-returns
 returns c =
     record {
@@ -27,8 +18,4 @@ returns c =
 pub tickbutton-serve-run-spec : {M : Type 1} → statement M
 tickbutton-serve-run-spec =
     tie.close
-    (tie.spec
-    serve-run-requires
-    same-length
-    same-length-2
-    returns)
+    (tie.spec (λ c κs. search needs) (λ c. search needs) (λ c. search needs) returns)

@@ -5,21 +5,9 @@ use borrow.Author.Needs.{needs}
 use Rattle.exports.proofs.tickbutton_sound.Statement.{statement}
 use Rattle.exports.proofs.tickbutton_sound.Tie as tie
 
-sound-requires : tie.Need-sound-requires
-sound-requires c κs = search needs
-
-told-requires : tie.Need-told-requires
-told-requires c κs = search needs
-
 returns : tie.Need-returns
 unfolding soundness-number
 returns c = c .told .ensures ∙ ap soundness-number (sym (c .before .if1 .taken) ∙ c .before .before .sound .ensures)
-
-cast-told : tie.Need-cast-told
-cast-told c = search needs
-
-told-requires-2 : tie.Need-told-requires-2
-told-requires-2 c κs = search needs
 
 returns-2 : tie.Need-returns-2
 unfolding soundness-number
@@ -27,4 +15,5 @@ returns-2 c = c .told2 .ensures ∙ ap soundness-number (sym (c .before .if1 .le
 
 pub tickbutton-sound-spec : {M : Type 1} → statement M
 tickbutton-sound-spec =
-    tie.close (tie.spec sound-requires told-requires returns cast-told told-requires-2 returns-2)
+    tie.close
+    (tie.spec (λ c κs. search needs) (λ c κs. search needs) returns (λ c. search needs) (λ c κs. search needs) returns-2)

@@ -5,43 +5,26 @@ use borrow.Author.Needs.{needs}
 use Rattle.exports.proofs.tickbutton_walk.Statement.{statement}
 use Rattle.exports.proofs.tickbutton_walk.Tie as tie
 
-walk-to-requires : tie.Need-walk-to-requires
-walk-to-requires c κs = search needs
-
-enum-known-node : tie.Need-enum-known-node
-enum-known-node c = search needs
-
-cast-told : tie.Need-cast-told
-cast-told c = search needs
-
-told-requires : tie.Need-told-requires
-told-requires c κs = search needs
-
-enum-known-number : tie.Need-enum-known-number
-enum-known-number c = search needs
-
-cast-told-2 : tie.Need-cast-told-2
-cast-told-2 c = search needs
-
-told-requires-2 : tie.Need-told-requires-2
-told-requires-2 c κs = search needs
-
 returns : tie.Need-returns
-returns c = record { answer = c .told .ensures ∙ node-told (rw (c .before .before .node .given .1) at (c .before .before .before .before .walk-to .ensures)); numbers = c .before .before .before .before .walk-to .ensures .numbers }
+returns c =
+    let reached = c .before .before in
+    let walked = reached .before .before in
+    record {
+      answer = c .told .ensures ∙ node-told (rw (reached .node .given .1) at (walked .walk-to .ensures));
+      numbers = walked .walk-to .ensures .numbers;
+    }
 
 returns-2 : tie.Need-returns-2
-returns-2 c = record { answer = c .told2 .ensures ∙ refusal-told (rw (c .before .before .number .given .1) at (c .before .before .before .before .walk-to .ensures)); numbers = c .before .before .before .before .walk-to .ensures .numbers }
+returns-2 c =
+    let refused = c .before .before in
+    let walked = refused .before .before in
+    record {
+      answer = c .told2 .ensures ∙ refusal-told (rw (refused .number .given .1) at (walked .walk-to .ensures));
+      numbers = walked .walk-to .ensures .numbers;
+    }
 
 pub tickbutton-walk-spec : {M : Type 1} → statement M
 tickbutton-walk-spec =
     tie.close
-    (tie.spec
-    walk-to-requires
-    enum-known-node
-    cast-told
-    told-requires
-    enum-known-number
-    cast-told-2
-    told-requires-2
-    returns
-    returns-2)
+    (tie.spec (λ c κs. search needs) (λ c. search needs) (λ c. search needs) (λ c κs. search needs) (λ c. search needs) (λ c. search needs)
+    (λ c κs. search needs) returns returns-2)

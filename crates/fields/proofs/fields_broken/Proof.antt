@@ -4,31 +4,22 @@ use borrow.Author.Needs.{needs}
 use Rattle.fields.proofs.fields_broken.Statement.{statement}
 use Rattle.fields.proofs.fields_broken.Tie as tie
 
-numbers-broken-requires : tie.Need-numbers-broken-requires
-numbers-broken-requires c κs = search needs
-
 returns : tie.Need-returns
 returns c = rw (sym (c .before .numbers-broken .ensures) ∙ c .if1 .taken)
 
-filled-blank-requires : tie.Need-filled-blank-requires
-filled-blank-requires c κs = search needs
-
 returns-2 : tie.Need-returns-2
-returns-2 c = rw (sym (c .before .before .before .numbers-broken .ensures) ∙ c .before .before .if1 .left, sym (c .before .filled-blank .ensures) ∙ c .if2 .taken)
-
-filled-blank-requires-2 : tie.Need-filled-blank-requires-2
-filled-blank-requires-2 c κs = search needs
+returns-2 c =
+    let numbers = c .before .before in
+    rw (sym (numbers .before .numbers-broken .ensures) ∙ numbers .if1 .left, sym (c .before .filled-blank .ensures) ∙ c .if2 .taken)
 
 returns-3 : tie.Need-returns-3
-returns-3 c = rw (sym (c .before .before .before .before .numbers-broken .ensures) ∙ c .before .before .before .if1 .left, sym (c .before .before .filled-blank .ensures) ∙ c .before .if2 .left) (c .filled-blank2 .ensures)
+returns-3 c =
+    let path1 = c .before in
+    let numbers = path1 .before .before in
+    rw (sym (numbers .before .numbers-broken .ensures) ∙ numbers .if1 .left, sym (path1 .before .filled-blank .ensures) ∙ path1 .if2 .left)
+    (c .filled-blank2 .ensures)
 
 pub fields-broken-spec : {M : Type 1} → statement M
 fields-broken-spec =
     tie.close
-    (tie.spec
-    numbers-broken-requires
-    returns
-    filled-blank-requires
-    returns-2
-    filled-blank-requires-2
-    returns-3)
+    (tie.spec (λ c κs. search needs) returns (λ c κs. search needs) returns-2 (λ c κs. search needs) returns-3)

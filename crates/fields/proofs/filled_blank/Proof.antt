@@ -8,12 +8,6 @@ use Rattle.fields.proofs.filled_blank.Tie as tie
 enum-told : tie.Need-enum-told
 enum-told c = search needs
 
-enum-told-2 : tie.Need-enum-told-2
-enum-told-2 c = search needs
-
-enum-told-3 : tie.Need-enum-told-3
-enum-told-3 c = search needs
-
 returns : tie.Need-returns
 returns c = sym (filled-at-blank _ _ (c .enum-told .given .1))
 
@@ -25,4 +19,4 @@ returns-3 c = sym (filled-at-target _ _ (c .enum-told3 .given .1))
 
 pub filled-blank-spec : {M : Type 1} → statement M
 filled-blank-spec =
-    tie.close (tie.spec enum-told enum-told-2 enum-told-3 returns returns-2 returns-3)
+    tie.close (tie.spec enum-told (λ c. search needs) (λ c. search needs) returns returns-2 returns-3)

@@ -9,18 +9,6 @@ use Rattle.fields.proofs.not_valid.Tie as tie
 enum-told : tie.Need-enum-told
 enum-told c = search needs
 
-enum-told-2 : tie.Need-enum-told-2
-enum-told-2 c = search needs
-
-valid-path-requires : tie.Need-valid-path-requires
-valid-path-requires c κs = search needs
-
-enum-told-3 : tie.Need-enum-told-3
-enum-told-3 c = search needs
-
-valid-target-requires : tie.Need-valid-target-requires
-valid-target-requires c κs = search needs
-
 returns : tie.Need-returns
 returns c = sym (valid-at-blank _ _ (c .enum-told .given .1))
 
@@ -33,12 +21,4 @@ returns-3 c = ap not (c .valid-target .ensures) ∙ sym (valid-at-target _ _ (c 
 pub not-valid-spec : {M : Type 1} → statement M
 not-valid-spec =
     tie.close
-    (tie.spec
-    enum-told
-    enum-told-2
-    valid-path-requires
-    enum-told-3
-    valid-target-requires
-    returns
-    returns-2
-    returns-3)
+    (tie.spec enum-told (λ c. search needs) (λ c κs. search needs) (λ c. search needs) (λ c κs. search needs) returns returns-2 returns-3)

@@ -7,18 +7,12 @@ use Rattle.fresh.proofs.fresh.Tie as tie
 returns : tie.Need-returns
 returns c = refuses (c .before .before .args .words .now) (c .if1 .taken)
 
-clear-all-requires : tie.Need-clear-all-requires
-clear-all-requires c κs = search needs
-
-slice-write-words : tie.Need-slice-write-words
-slice-write-words c = search needs
-
-same-length : tie.Need-same-length
-same-length c = search needs
-
 returns-2 : tie.Need-returns-2
-returns-2 c = prepares (c .before .before .before .before .before .before .args .words .now) (c .before .before .before .before .if1 .left) (c .before .before .clear-all .ensures)
+returns-2 c =
+    let after-clear-all = c .before .before in
+    let test-1 = after-clear-all .before .before in
+    let start = test-1 .before .before in
+    prepares (start .args .words .now) (test-1 .if1 .left) (after-clear-all .clear-all .ensures)
 
 pub fresh-spec : {M : Type 1} → statement M
-fresh-spec =
-    tie.close (tie.spec returns clear-all-requires slice-write-words same-length returns-2)
+fresh-spec = tie.close (tie.spec returns (λ c κs. search needs) (λ c. search needs) (λ c. search needs) returns-2)

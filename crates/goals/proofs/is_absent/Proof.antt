@@ -6,9 +6,6 @@ use Rattle.model.specs.Calls.{absent}
 use Rattle.goals.proofs.is_absent.Statement.{statement}
 use Rattle.goals.proofs.is_absent.Tie as tie
 
-node-of-requires : tie.Need-node-of-requires
-node-of-requires c κs = search needs
-
 returns : tie.Need-returns
 unfolding absent
 returns c = ap (λ n. eqb n 0) (c .node-of .ensures)
@@ -16,6 +13,4 @@ returns c = ap (λ n. eqb n 0) (c .node-of .ensures)
 pub is-absent-spec : {M : Type 1} → statement M
 is-absent-spec =
     tie.close
-    (tie.spec
-    node-of-requires
-    returns)
+    (tie.spec (λ c κs. search needs) returns)

@@ -8,12 +8,6 @@ use Rattle.goals.proofs.node_at_end.Tie as tie
 enum-told : tie.Need-enum-told
 enum-told c = search needs
 
-enum-told-2 : tie.Need-enum-told-2
-enum-told-2 c = search needs
-
-enum-known-stop : tie.Need-enum-known-stop
-enum-known-stop c = search needs
-
 returns : tie.Need-returns
 unfolding node-at-end
 returns c = sym (ap node-at-end (c .enum-told .given .1))
@@ -29,10 +23,4 @@ returns-3 c = sym (ap node-at-end (c .before .stop .given .1))
 pub node-at-end-spec : {M : Type 1} → statement M
 node-at-end-spec =
     tie.close
-    (tie.spec
-    enum-told
-    enum-told-2
-    enum-known-stop
-    returns
-    returns-2
-    returns-3)
+    (tie.spec enum-told (λ c. search needs) (λ c. search needs) returns returns-2 returns-3)

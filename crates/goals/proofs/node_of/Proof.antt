@@ -4,12 +4,9 @@ use Rattle.goals.specs.Goals.{goal-of}
 use Rattle.goals.proofs.node_of.Statement.{statement}
 use Rattle.goals.proofs.node_of.Tie as tie
 
-node-at-end-requires : tie.Need-node-at-end-requires
-node-at-end-requires c κs = search needs
-
 returns : tie.Need-returns
 unfolding goal-of
 returns c = c .node-at-end .ensures
 
 pub node-of-spec : {M : Type 1} → statement M
-node-of-spec = tie.close (tie.spec node-at-end-requires returns)
+node-of-spec = tie.close (tie.spec (λ c κs. search needs) returns)

@@ -8,18 +8,6 @@ use Rattle.holds.proofs.directory_of.Tie as tie
 enum-told : tie.Need-enum-told
 enum-told c = search needs
 
-enum-known-scope : tie.Need-enum-known-scope
-enum-known-scope c = search needs
-
-enum-known-scope-2 : tie.Need-enum-known-scope-2
-enum-known-scope-2 c = search needs
-
-enum-known-scope-3 : tie.Need-enum-known-scope-3
-enum-known-scope-3 c = search needs
-
-enum-told-2 : tie.Need-enum-told-2
-enum-told-2 c = search needs
-
 returns : tie.Need-returns
 unfolding scope-directory
 returns c = ap scope-directory (sym (c .enum-told .given .1))
@@ -41,16 +29,5 @@ unfolding scope-directory
 returns-5 c = ap scope-directory (sym (c .enum-told2 .given .1))
 
 pub directory-of-spec : {M : Type 1} → statement M
-directory-of-spec =
-    tie.close
-    (tie.spec
-    enum-told
-    enum-known-scope
-    enum-known-scope-2
-    enum-known-scope-3
-    enum-told-2
-    returns
-    returns-2
-    returns-3
-    returns-4
+directory-of-spec = tie.close (tie.spec enum-told (λ c. search needs) (λ c. search needs) (λ c. search needs) (λ c. search needs) returns returns-2 returns-3 returns-4
     returns-5)

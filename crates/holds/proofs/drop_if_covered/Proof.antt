@@ -5,31 +5,17 @@ use Rattle.holds.specs.Scopes.{covers}
 use Rattle.holds.proofs.drop_if_covered.Statement.{statement}
 use Rattle.holds.proofs.drop_if_covered.Tie as tie
 
-is-covered-requires : tie.Need-is-covered-requires
-is-covered-requires c κs = search needs
-
-clear-hold-requires : tie.Need-clear-hold-requires
-clear-hold-requires c κs = search needs
-
-same-length : tie.Need-same-length
-same-length c = search needs
-
 returns : tie.Need-returns
-returns c = row-dropped (c .before .before .before .before .before .before .before .before .args .words .now) (covers (c .before .before .before .before .before .before .before .before .args .scope)) (c .before .before .before .before .before .before .before .before .args .row) (c .before .before .before .before .before .is-covered .ensures) (c .before .before .before .before .if1 .taken) (c .before .before .clear-hold .ensures)
-
-same-length-2 : tie.Need-same-length-2
-same-length-2 c = search needs
+returns c =
+    let at-clear-hold = c .before .before in let at-if1 = at-clear-hold .before .before in let at-is-covered = at-if1 .before in
+    let start = at-is-covered .before .before .before in
+    row-dropped (start .args .words .now) (covers (start .args .scope)) (start .args .row) (at-is-covered .is-covered .ensures) (at-if1 .if1 .taken)
+    (at-clear-hold .clear-hold .ensures)
 
 returns-2 : tie.Need-returns-2
-returns-2 c = row-left (c .before .before .before .before .args .words .now) (covers (c .before .before .before .before .args .scope)) (c .before .before .before .before .args .row) (c .before .is-covered .ensures) (c .before .before .before .before .pre .0) (c .if1 .left)
+returns-2 c =
+    let at-is-covered = c .before in let start = at-is-covered .before .before .before in
+    row-left (start .args .words .now) (covers (start .args .scope)) (start .args .row) (at-is-covered .is-covered .ensures) (start .pre .0) (c .if1 .left)
 
 pub drop-if-covered-spec : {M : Type 1} → statement M
-drop-if-covered-spec =
-    tie.close
-    (tie.spec
-    is-covered-requires
-    clear-hold-requires
-    same-length
-    returns
-    same-length-2
-    returns-2)
+drop-if-covered-spec = tie.close (tie.spec (λ c κs. search needs) (λ c κs. search needs) (λ c. search needs) returns (λ c. search needs) returns-2)

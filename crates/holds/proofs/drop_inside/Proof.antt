@@ -12,16 +12,10 @@ drop-covered-requires : tie.Need-drop-covered-requires
 unfolding Scope-named
 drop-covered-requires c κs = (c .before .before .pre, tt)
 
-same-length : tie.Need-same-length
-same-length c = search needs
-
 returns : tie.Need-returns
-returns c = drops-alike (unpack (c .before .before .before .before .before .args .words .now)) (covers (Inside (c .before .before .before .before .before .args .directory))) (inside (c .before .before .before .before .before .args .directory)) (scoped-inside (c .before .before .before .before .before .args .directory) .same) (c .before .before .drop-covered .ensures)
+returns c =
+    let at-drop-covered = c .before .before in let start = at-drop-covered .before .before .before in let directory = start .args .directory in
+    drops-alike (unpack (start .args .words .now)) (covers (Inside directory)) (inside directory) (scoped-inside directory .same) (at-drop-covered .drop-covered .ensures)
 
 pub drop-inside-spec : {M : Type 1} → statement M
-drop-inside-spec =
-    tie.close
-    (tie.spec
-    drop-covered-requires
-    same-length
-    returns)
+drop-inside-spec = tie.close (tie.spec drop-covered-requires (λ c. search needs) returns)

@@ -12,16 +12,10 @@ drop-covered-requires : tie.Need-drop-covered-requires
 unfolding Scope-named
 drop-covered-requires c κs = (c .before .before .pre, tt)
 
-same-length : tie.Need-same-length
-same-length c = search needs
-
 returns : tie.Need-returns
-returns c = drops-alike (unpack (c .before .before .before .before .before .args .words .now)) (covers (Of (c .before .before .before .before .before .args .process))) (of-process (c .before .before .before .before .before .args .process)) (scoped-process (c .before .before .before .before .before .args .process) .same) (c .before .before .drop-covered .ensures)
+returns c =
+    let at-drop-covered = c .before .before in let start = at-drop-covered .before .before .before in let process = start .args .process in
+    drops-alike (unpack (start .args .words .now)) (covers (Of process)) (of-process process) (scoped-process process .same) (at-drop-covered .drop-covered .ensures)
 
 pub drop-of-process-spec : {M : Type 1} → statement M
-drop-of-process-spec =
-    tie.close
-    (tie.spec
-    drop-covered-requires
-    same-length
-    returns)
+drop-of-process-spec = tie.close (tie.spec drop-covered-requires (λ c. search needs) returns)

@@ -1,41 +1,36 @@
--- `holds::drop_overruled` meets its contract: root drops what is in the way, and others nothing. Assumes nothing.
+-- `holds::drop_overruled` meets its contract: root's test is the scope's, and for others nothing is dropped. Assumes nothing.
 use borrow.Author.Needs.{needs}
-use Rattle.model.specs.Holds.{overruled}
 use Rattle.model.specs.Words.{unpack}
+use Rattle.model.specs.Holds.{overruled}
 use Rattle.goals.specs.Goals.{goal-of}
 use Rattle.holds.proofs.Ways.{drops-alike, drops-nothing, none-overruled, overrules}
 use Rattle.holds.proofs.drop_overruled.Statement.{statement}
 use Rattle.holds.proofs.drop_overruled.Tie as tie
 
-user-of-process-requires : tie.Need-user-of-process-requires
-user-of-process-requires c κs = search needs
-
-same-length : tie.Need-same-length
-same-length c = search needs
-
-returns : tie.Need-returns
-returns c = drops-nothing (c .before .before .before .before .args .words .now) (overruled (unpack (c .before .before .before .before .args .words .now)) (c .before .before .before .before .args .process) (goal-of (c .before .before .before .before .args .walk))) (c .before .before .before .before .pre .0) (none-overruled (unpack (c .before .before .before .before .args .words .now)) (c .before .before .before .before .args .process) (goal-of (c .before .before .before .before .args .walk)) (c .before .user-of-process .ensures) (c .if1 .taken))
-
 entry-scope-requires : tie.Need-entry-scope-requires
-entry-scope-requires c κs = c .before .before .before .before .before .pre .1
+entry-scope-requires c κs =
+    let start = c .before .before .before .before in
+    start .pre .1 .1
 
 drop-in-the-way-requires : tie.Need-drop-in-the-way-requires
-drop-in-the-way-requires c κs = (c .before .before .before .before .before .before .pre .0, c .entry-scope .ensures .named)
+drop-in-the-way-requires c κs =
+    let start = c .before .before .before .before .before in
+    (start .pre .0, c .entry-scope .ensures .named)
 
-same-length-2 : tie.Need-same-length-2
-same-length-2 c = search needs
+returns : tie.Need-returns
+returns c =
+    let at-drop-in-the-way = c .before .before in let at-entry-scope = at-drop-in-the-way .before in let at-if1 = at-entry-scope .before .before in
+    let at-is-root = at-if1 .before in let start = at-is-root .before .before in
+    let words = start .args .words .now in let caller = start .args .caller in let walk = start .args .walk in
+    let test = overruled (unpack words) (caller .process) (goal-of walk) in
+    drops-alike (unpack words) _ test (overrules (unpack words) caller (start .pre .1 .0) (goal-of walk) (at-is-root .is-root .ensures) (at-if1 .if1 .taken) (at-entry-scope .entry-scope .ensures))
+    (at-drop-in-the-way .drop-in-the-way .ensures)
 
 returns-2 : tie.Need-returns-2
-returns-2 c = drops-alike (unpack (c .before .before .before .before .before .before .before .before .before .args .words .now)) _ (overruled (unpack (c .before .before .before .before .before .before .before .before .before .args .words .now)) (c .before .before .before .before .before .before .before .before .before .args .process) (goal-of (c .before .before .before .before .before .before .before .before .before .args .walk))) (overrules (unpack (c .before .before .before .before .before .before .before .before .before .args .words .now)) (c .before .before .before .before .before .before .before .before .before .args .process) (goal-of (c .before .before .before .before .before .before .before .before .before .args .walk)) (c .before .before .before .before .before .before .user-of-process .ensures) (c .before .before .before .before .before .if1 .left) (c .before .before .before .entry-scope .ensures)) (c .before .before .drop-in-the-way .ensures)
+returns-2 c =
+    let start = c .before .before .before in let words = start .args .words .now in let caller = start .args .caller in let walk = start .args .walk in
+    let test = overruled (unpack words) (caller .process) (goal-of walk) in
+    drops-nothing words test (start .pre .0) (none-overruled (unpack words) caller (start .pre .1 .0) (goal-of walk) (c .before .is-root .ensures) (c .if1 .left))
 
 pub drop-overruled-spec : {M : Type 1} → statement M
-drop-overruled-spec =
-    tie.close
-    (tie.spec
-    user-of-process-requires
-    same-length
-    returns
-    entry-scope-requires
-    drop-in-the-way-requires
-    same-length-2
-    returns-2)
+drop-overruled-spec = tie.close (tie.spec (λ c κs. search needs) entry-scope-requires drop-in-the-way-requires (λ c. search needs) returns returns-2)

@@ -7,11 +7,10 @@ use Rattle.holds.specs.Scopes.{Scope-named}
 use Rattle.holds.proofs.ends_at.Statement.{statement}
 use Rattle.holds.proofs.ends_at.Tie as tie
 
-hold-role-requires : tie.Need-hold-role-requires
-hold-role-requires c κs = search needs
-
 returns : tie.Need-returns
-returns c = not-an-end (hold-row (c .before .before .before .args .words .now) (c .before .before .before .args .row)) (c .before .before .before .args .place) (c .before .hold-role .ensures) (c .if1 .taken)
+returns c =
+    let at-hold-role = c .before in let start = at-hold-role .before .before in
+    not-an-end (hold-row (start .args .words .now) (start .args .row)) (start .args .place) (at-hold-role .hold-role .ensures) (c .if1 .taken)
 
 hold-is-on-requires : tie.Need-hold-is-on-requires
 unfolding Scope-named Place-named
@@ -19,13 +18,9 @@ hold-is-on-requires c κs = (c .before .before .before .before .pre .0, (c .befo
 
 returns-2 : tie.Need-returns-2
 unfolding place-at
-returns-2 c = end-there (hold-row (c .before .before .before .before .before .args .words .now) (c .before .before .before .before .before .args .row)) (c .before .before .before .before .before .args .place) (c .before .before .before .hold-role .ensures) (c .before .before .if1 .left) (c .hold-is-on .ensures)
+returns-2 c =
+    let at-if1 = c .before .before in let at-hold-role = at-if1 .before in let start = at-hold-role .before .before in
+    end-there (hold-row (start .args .words .now) (start .args .row)) (start .args .place) (at-hold-role .hold-role .ensures) (at-if1 .if1 .left) (c .hold-is-on .ensures)
 
 pub ends-at-spec : {M : Type 1} → statement M
-ends-at-spec =
-    tie.close
-    (tie.spec
-    hold-role-requires
-    returns
-    hold-is-on-requires
-    returns-2)
+ends-at-spec = tie.close (tie.spec (λ c κs. search needs) returns hold-is-on-requires returns-2)

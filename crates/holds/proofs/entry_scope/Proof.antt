@@ -7,12 +7,6 @@ use Rattle.holds.proofs.entry_scope.Tie as tie
 enum-told : tie.Need-enum-told
 enum-told c = search needs
 
-enum-told-2 : tie.Need-enum-told-2
-enum-told-2 c = search needs
-
-enum-known-stop : tie.Need-enum-known-stop
-enum-known-stop c = search needs
-
 returns : tie.Need-returns
 returns c = entry-nowhere (c .before .before .args .walk) (refused-end (c .before .before .args .walk) (c .enum-told .given .1))
 
@@ -23,12 +17,4 @@ returns-3 : tie.Need-returns-3
 returns-3 c = entry-there (c .before .before .before .args .walk) (c .before .before .before .pre) (c .before .stop .given .1)
 
 pub entry-scope-spec : {M : Type 1} → statement M
-entry-scope-spec =
-    tie.close
-    (tie.spec
-    enum-told
-    enum-told-2
-    enum-known-stop
-    returns
-    returns-2
-    returns-3)
+entry-scope-spec = tie.close (tie.spec enum-told (λ c. search needs) (λ c. search needs) returns returns-2 returns-3)

@@ -8,11 +8,10 @@ use Rattle.holds.proofs.may_be_covered.Tie as tie
 returns : tie.Need-returns
 returns c = no-directory (hold-row (c .before .before .args .words .now) (c .before .before .args .row)) (c .before .before .args .directory) (c .if1 .taken)
 
-hold-directory-requires : tie.Need-hold-directory-requires
-hold-directory-requires c κs = search needs
-
 returns-2 : tie.Need-returns-2
-returns-2 c = elsewhere-asked (hold-row (c .before .before .before .args .words .now) (c .before .before .before .args .row)) (c .before .before .before .args .directory) (c .before .if1 .left) (c .hold-directory .ensures)
+returns-2 c =
+    let at-if1 = c .before in let start = at-if1 .before .before in
+    elsewhere-asked (hold-row (start .args .words .now) (start .args .row)) (start .args .directory) (at-if1 .if1 .left) (c .hold-directory .ensures)
 
 pub may-be-covered-spec : {M : Type 1} → statement M
-may-be-covered-spec = tie.close (tie.spec returns hold-directory-requires returns-2)
+may-be-covered-spec = tie.close (tie.spec returns (λ c κs. search needs) returns-2)

@@ -1,26 +1,19 @@
 -- `index::find_entry` meets its contract: the place's chain is gone down from its bucket's head. Assumes nothing.
-use native.Mathlib.Omega.{arith}
 use borrow.Author.Needs.{needs}
 use Rattle.rows.specs.Blocks.{place-of}
 use Rattle.index.specs.Indexed.{row-found}
-use Rattle.index.proofs.Entries.{chain-from-head, found-last}
+use Rattle.index.proofs.Entries.{entry-descent, found-last}
 use Rattle.index.proofs.find_entry.Statement.{statement}
 use Rattle.index.proofs.find_entry.Tie as tie
 
-bucket-of-requires : tie.Need-bucket-of-requires
-bucket-of-requires c κs = search needs
-
-mul-last-at : tie.Need-mul-last-at
-mul-last-at c = search needs
-
-element-copy-out-last-at : tie.Need-element-copy-out-last-at
-element-copy-out-last-at c = search needs
-
 last-at-requires : tie.Need-last-at-requires
 last-at-requires c κs =
-    let pre = c .before .before .before .pre in
-    let bucket = c .before .bucket-of .ensures in
-    chain-from-head (pre .0 .stands) (pre .0 .chained) (omega arith) (pre .1 .0) (pre .1 .1) (bucket .0) (bucket .1)
+    let start = c .before .before .before in
+    let pre = start .pre in
+    let bucket = c .before .bucket-of .ensures in (
+      pre .0 .stands,
+      (pre .1 .0, entry-descent (start .args .directory) (start .args .name) (pre .0 .chained) (pre .1 .0) (pre .1 .1) (bucket .0) (bucket .1)),
+    )
 
 returns : tie.Need-returns
 unfolding row-found
@@ -30,5 +23,4 @@ returns c =
 
 pub find-entry-spec : {M : Type 1} → statement M
 find-entry-spec =
-    tie.close
-    (tie.spec bucket-of-requires mul-last-at element-copy-out-last-at last-at-requires returns)
+    tie.close (tie.spec (λ c κs. search needs) (λ c. search needs) (λ c. search needs) last-at-requires returns)

@@ -3,7 +3,8 @@ use mathlib.Core.Bool.{false≢true}
 use mathlib.Core.Logic.{⊎-elim}
 use Prim.Native.Nat.{_-_}
 use borrow.Author.Needs.{needs}
-use Rattle.index.proofs.Entries.{row-named, chain-from-head, Building, building-starts, building-past, building-more, building-twice, building-ends}
+use Rattle.model.specs.Tables.{entry-rows}
+use Rattle.index.proofs.Entries.{row-named, entry-descent, Building, building-starts, building-past, building-more, building-twice, building-ends}
 use Rattle.index.proofs.index_entries.Statement.{statement}
 use Rattle.index.proofs.index_entries.Tie as tie
 
@@ -11,87 +12,51 @@ abbrev Inv-loop : tie.InvT-loop
 Inv-loop words heads₀ next₀ row₀ heads next row = Building words heads next row
 
 abbrev μ-loop : tie.MeasureT-loop
-μ-loop words heads₀ next₀ row₀ heads next row = 512 - row
+μ-loop words heads₀ next₀ row₀ heads next row = entry-rows - row
 
 loop-holds : tie.Need-loop-holds Inv-loop μ-loop
-loop-holds c = building-starts _ _ _ (c .before .pre .1 .0) (c .before .pre .1 .1)
-
-entry-directory-requires : tie.Need-entry-directory-requires Inv-loop μ-loop
-entry-directory-requires c κs = search needs
-
-entry-name-requires : tie.Need-entry-name-requires Inv-loop μ-loop
-entry-name-requires c κs = search needs
-
-bucket-of-requires : tie.Need-bucket-of-requires Inv-loop μ-loop
-bucket-of-requires c κs = search needs
-
-mul-from : tie.Need-mul-from Inv-loop μ-loop
-mul-from c = search needs
-
-element-copy-out-from : tie.Need-element-copy-out-from Inv-loop μ-loop
-element-copy-out-from c = search needs
+loop-holds c = building-starts (c .before .args .words .now) (c .before .pre .1 .0) (c .before .pre .1 .1)
 
 last-at-requires : tie.Need-last-at-requires Inv-loop μ-loop
-last-at-requires c κs = chain-from-head (c .before .before .before .before .before .before .before .before .before .pre .0) (c .before .before .before .before .before .before .before .loop .inv .chained) (c .before .before .before .before .before .before .before .loop .inv .inside) (row-named _ _ (c .before .before .before .entry-name .ensures)) (c .before .before .before .before .if1 .taken) (c .before .before .bucket-of .ensures .0) (c .before .before .bucket-of .ensures .1)
+last-at-requires c κs =
+    let bucket = c .before .before .bucket-of .ensures in
+    let named = c .before .before .before in
+    let used = named .before in
+    let turn = used .before .before in
+    let start = turn .before .before .before in
+    let name = row-named (start .args .words .now) _ (named .entry-name .ensures) in
+    (start .pre .0, (name, entry-descent _ _ (turn .before .loop .inv .chained) name (used .if1 .taken) (bucket .0) (bucket .1)))
 
 returns : tie.Need-returns Inv-loop μ-loop
-returns c = (building-twice _ _ _ (c .before .before .before .before .before .before .before .before .before .loop .inv) (c .before .before .before .before .before .before .before .before .loop-test .taken) (c .before .before .before .before .before .before .before .entry-directory .ensures) (c .before .before .before .before .before .before .if1 .taken) (c .before .before .before .before .before .entry-name .ensures) (c .before .last-at .ensures) (c .if2 .taken), λ e. absurd (false≢true e))
-
-mul-next : tie.Need-mul-next Inv-loop μ-loop
-mul-next c = search needs
-
-element-write-next : tie.Need-element-write-next Inv-loop μ-loop
-element-write-next c = search needs
-
-add-heads : tie.Need-add-heads Inv-loop μ-loop
-add-heads c = search needs
-
-cast-heads : tie.Need-cast-heads Inv-loop μ-loop
-cast-heads c = search needs
-
-mul-heads : tie.Need-mul-heads Inv-loop μ-loop
-mul-heads c = search needs
-
-element-write-heads : tie.Need-element-write-heads Inv-loop μ-loop
-element-write-heads c = search needs
-
-add-row : tie.Need-add-row Inv-loop μ-loop
-add-row c = search needs
-
-loop-less : tie.Need-loop-less Inv-loop μ-loop
-loop-less c = search needs
+returns c =
+    let named = c .before .before .before .before .before in
+    let used = named .before in
+    let turn = used .before .before in
+    let start = turn .before .before .before in (
+      building-twice (start .args .words .now) (turn .before .loop .inv) (turn .loop-test .taken) (used .before .entry-directory .ensures)
+          (used .if1 .taken) (named .entry-name .ensures) (c .before .last-at .ensures) (c .if2 .taken),
+      λ e. absurd (false≢true e),
+    )
 
 loop-again : tie.Need-loop-again Inv-loop μ-loop
 loop-again c =
+    let turn = c .before .before in
+    let start = turn .before .before .before in
+    let directory = c .before .entry-directory .ensures in
     ⊎-elim
-    (λ w. rw (w .7, w .8) (building-more _ _ _ (c .before .before .before .loop .inv) (c .before .before .loop-test .taken) (c .before .entry-directory .ensures) (w .0 .taken) (w .1 .ensures) (w .5 .ensures) (w .6 .left) (w .2 .ensures .0) (w .2 .ensures .1)))
-    (λ w. rw (w .1, w .2) (building-past _ _ _ (c .before .before .before .loop .inv) (c .before .before .loop-test .taken) (c .before .entry-directory .ensures) (w .0 .left)))
+    (λ w. rw (w .7, w .8) (building-more (start .args .words .now) (turn .before .loop .inv) (turn .loop-test .taken) directory (w .0 .taken)
+    (w .1 .ensures) (w .5 .ensures) (w .6 .left) (w .2 .ensures .0) (w .2 .ensures .1)))
+    (λ w. rw (w .1, w .2) (building-past (start .args .words .now) (turn .before .loop .inv) (turn .loop-test .taken) directory (w .0 .left)))
     (c .if1 .came)
 
 returns-2 : tie.Need-returns-2 Inv-loop μ-loop
-returns-2 c = building-ends _ _ _ (c .before .before .before .pre .0) (c .before .loop .inv) (c .loop-test .left)
+returns-2 c =
+    let start = c .before .before .before in
+    building-ends (start .args .words .now) (start .pre .0) (c .before .loop .inv) (c .loop-test .left)
 
 pub index-entries-spec : {M : Type 1} → statement M
 index-entries-spec =
     tie.close
-    (tie.spec
-    Inv-loop
-    μ-loop
-    loop-holds
-    entry-directory-requires
-    entry-name-requires
-    bucket-of-requires
-    mul-from
-    element-copy-out-from
-    last-at-requires
-    returns
-    mul-next
-    element-write-next
-    add-heads
-    cast-heads
-    mul-heads
-    element-write-heads
-    add-row
-    loop-less
-    loop-again
-    returns-2)
+    (tie.spec Inv-loop μ-loop loop-holds (λ c κs. search needs) (λ c κs. search needs) (λ c κs. search needs) (λ c. search needs) (λ c. search needs)
+    last-at-requires returns (λ c. search needs) (λ c. search needs) (λ c. search needs) (λ c. search needs) (λ c. search needs) (λ c. search needs)
+    (λ c. search needs) (λ c. search needs) loop-again returns-2)

@@ -8,16 +8,10 @@ use Rattle.index.proofs.node_found.Tie as tie
 returns : tie.Need-returns
 returns c = let start = c .before .before in node-in-none (start .args .words .now) (start .args .found) (c .if1 .taken)
 
-sub-entry-node : tie.Need-sub-entry-node
-sub-entry-node c = search needs
-
-entry-node-requires : tie.Need-entry-node-requires
-entry-node-requires c κs = search needs
-
 returns-2 : tie.Need-returns-2
 returns-2 c =
     let start = c .before .before .before in
     c .entry-node .ensures ∙ node-in-row (start .args .words .now) (start .args .found) (c .before .if1 .left)
 
 pub node-found-spec : {M : Type 1} → statement M
-node-found-spec = tie.close (tie.spec returns sub-entry-node entry-node-requires returns-2)
+node-found-spec = tie.close (tie.spec returns (λ c. search needs) (λ c κs. search needs) returns-2)

@@ -43,22 +43,43 @@ put-digits-same-length : (t : ℕ) → put-digits-lts.Need-same-length (calls t)
 put-digits-same-length t c = puts-length (c .before .before .put-byte .ensures)
 
 put-digits-returns : (t : ℕ) → put-digits-lts.Need-returns (calls t) (put-digits-at t) put-digits.Post
-put-digits-returns t c = puts-one-digit (c .before .before .before .before .before .if1 .taken) (c .before .before .before .digit .ensures) (c .before .before .put-byte .ensures)
+put-digits-returns t c =
+    let byte-put = c .before .before in
+    let digit-made = byte-put .before in
+    let tested = digit-made .before .before in
+    puts-one-digit (tested .if1 .taken) (digit-made .digit .ensures) (byte-put .put-byte .ensures)
 
 put-digits-put-digits-requires : (t : ℕ) → put-digits-lts.Need-put-digits-requires (calls t) (put-digits-at t) put-digits.Post
-put-digits-put-digits-requires t c κs = (fewer (c .before .if1 .left) (c .before .before .before .pre .0), others-fit (c .before .before .before .fits .number .fits) (c .before .if1 .left) _ (c .before .before .before .pre .1))
+put-digits-put-digits-requires t c κs =
+    let tested = c .before in
+    let start = tested .before .before in
+    (fewer (tested .if1 .left) (start .pre .0), others-fit (start .fits .number .fits) (tested .if1 .left) _ (start .pre .1))
 
 put-digits-digit-requires-2 : (t : ℕ) → put-digits-lts.Need-digit-requires-2 (calls t) (put-digits-at t) put-digits.Post
 put-digits-digit-requires-2 t c κs = omega arith
 
 put-digits-put-byte-requires-2 : (t : ℕ) → put-digits-lts.Need-put-byte-requires-2 (calls t) (put-digits-at t) put-digits.Post
-put-digits-put-byte-requires-2 t c κs = last-fits (c .before .before .before .before .before .before .before .before .fits .number .fits) (c .before .before .before .before .before .before .if1 .left) (c .before .before .before .before .before .before .before .before .pre .1) (c .before .before .before .before .put-digits .ensures)
+put-digits-put-byte-requires-2 t c κs =
+    let others-put = c .before .before .before .before in
+    let tested = others-put .before .before in
+    let start = tested .before .before in
+    last-fits (start .fits .number .fits) (tested .if1 .left) (start .pre .1) (others-put .put-digits .ensures)
 
 put-digits-same-length-2 : (t : ℕ) → put-digits-lts.Need-same-length-2 (calls t) (put-digits-at t) put-digits.Post
-put-digits-same-length-2 t c = puts-length (c .before .before .put-byte2 .ensures) ∙ puts-length (c .before .before .before .before .before .before .before .put-digits .ensures)
+put-digits-same-length-2 t c =
+    let byte-put = c .before .before in
+    let others-put = byte-put .before .before .before .before .before in
+    puts-length (byte-put .put-byte2 .ensures) ∙ puts-length (others-put .put-digits .ensures)
 
 put-digits-returns-2 : (t : ℕ) → put-digits-lts.Need-returns-2 (calls t) (put-digits-at t) put-digits.Post
-put-digits-returns-2 t c = puts-last-digit (c .before .before .before .before .before .before .before .before .before .before .before .fits .number .fits) (c .before .before .before .before .before .before .before .before .before .if1 .left) (c .before .before .before .before .before .before .before .put-digits .ensures) (c .before .before .before .digit2 .ensures) (c .before .before .put-byte2 .ensures)
+put-digits-returns-2 t c =
+    let byte-put = c .before .before in
+    let digit-made = byte-put .before in
+    let others-put = digit-made .before .before .before .before in
+    let tested = others-put .before .before in
+    let start = tested .before .before in
+    puts-last-digit (start .fits .number .fits) (tested .if1 .left) (others-put .put-digits .ensures) (digit-made .digit2 .ensures)
+    (byte-put .put-byte2 .ensures)
 
 pub +put-digits-spec : {M : Type 1} → statement M
 +put-digits-spec = close μ-put-digits λ t. put-digits-lts.spec (calls t)

@@ -9,12 +9,6 @@ use Rattle.names.proofs.tops_of.Tie as tie
 returns : tie.Need-returns
 returns c = tops-all (c .before .args .count) (c .if1 .taken)
 
-mul-result : tie.Need-mul-result
-mul-result c = search needs
-
-shr-result : tie.Need-shr-result
-shr-result c = search needs
-
 sub-result : tie.Need-sub-result
 sub-result c = div-le-self _ _
 
@@ -22,4 +16,4 @@ returns-2 : tie.Need-returns-2
 returns-2 c = tops-some (c .before .args .count) (omega arith)
 
 pub tops-of-spec : {M : Type 1} → statement M
-tops-of-spec = tie.close (tie.spec returns mul-result shr-result sub-result returns-2)
+tops-of-spec = tie.close (tie.spec returns (λ c. search needs) (λ c. search needs) sub-result returns-2)

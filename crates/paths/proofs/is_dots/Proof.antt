@@ -8,17 +8,11 @@ use Rattle.paths.proofs.is_dots.Tie as tie
 returns : tie.Need-returns
 returns c = sym (dots-longer _ (c .if1 .taken))
 
-shared-slice-read-if2 : tie.Need-shared-slice-read-if2
-shared-slice-read-if2 c = search needs
-
 returns-2 : tie.Need-returns-2
 returns-2 c = sym (dots-begin-otherwise _ (c .if2 .taken))
 
 returns-3 : tie.Need-returns-3
 returns-3 c = sym (dots-one _ (c .if3 .taken) (c .before .if2 .left))
-
-shared-slice-read-result : tie.Need-shared-slice-read-result
-shared-slice-read-result c = search needs
 
 returns-4 : tie.Need-returns-4
 returns-4 c = sym (dots-two _ (c .before .before .before .before .if1 .left) (c .before .if3 .left) (c .before .before .if2 .left))
@@ -26,4 +20,4 @@ returns-4 c = sym (dots-two _ (c .before .before .before .before .if1 .left) (c 
 pub is-dots-spec : {M : Type 1} → statement M
 is-dots-spec =
     tie.close
-    (tie.spec returns shared-slice-read-if2 returns-2 returns-3 shared-slice-read-result returns-4)
+    (tie.spec returns (λ c. search needs) returns-2 returns-3 (λ c. search needs) returns-4)

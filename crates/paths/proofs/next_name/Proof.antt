@@ -8,29 +8,11 @@ use Rattle.paths.proofs.next_name.Tie as tie
 returns : tie.Need-returns
 returns c = sym (next-at-end _ _ (c .if1 .taken))
 
-shared-slice-read-if2 : tie.Need-shared-slice-read-if2
-shared-slice-read-if2 c = search needs
-
-add-start : tie.Need-add-start
-add-start c = search needs
-
 returns-2 : tie.Need-returns-2
 returns-2 c = sym (next-at-last-slash _ _ (c .before .before .before .if1 .left) (c .before .if2 .taken) (c .if3 .taken))
 
-name-end-requires : tie.Need-name-end-requires
-name-end-requires c κs = search needs
-
-sub-t10 : tie.Need-sub-t10
-sub-t10 c = search needs
-
 returns-3 : tie.Need-returns-3
 returns-3 c = next-to-end _ _ _ _ (c .name-end .ensures) (next-behind-slash _ _ (c .before .before .before .before .if1 .left) (c .before .before .if2 .taken) (c .before .if3 .left))
-
-name-end-requires-2 : tie.Need-name-end-requires-2
-name-end-requires-2 c κs = search needs
-
-sub-t11 : tie.Need-sub-t11
-sub-t11 c = search needs
 
 returns-4 : tie.Need-returns-4
 returns-4 c = next-to-end _ _ _ _ (c .name-end2 .ensures) (next-here _ _ (c .before .before .before .if1 .left) (c .before .if2 .left))
@@ -38,14 +20,5 @@ returns-4 c = next-to-end _ _ _ _ (c .name-end2 .ensures) (next-here _ _ (c .bef
 pub next-name-spec : {M : Type 1} → statement M
 next-name-spec =
     tie.close
-    (tie.spec
-    returns
-    shared-slice-read-if2
-    add-start
-    returns-2
-    name-end-requires
-    sub-t10
-    returns-3
-    name-end-requires-2
-    sub-t11
-    returns-4)
+    (tie.spec returns (λ c. search needs) (λ c. search needs) returns-2 (λ c κs. search needs) (λ c. search needs) returns-3 (λ c κs. search needs)
+    (λ c. search needs) returns-4)

@@ -12,11 +12,8 @@ returns c = sym (name-empty _ (c .if1 .taken))
 returns-2 : tie.Need-returns-2
 returns-2 c = sym (name-longer _ (c .before .if1 .left) (c .if2 .taken))
 
-is-dots-requires : tie.Need-is-dots-requires
-is-dots-requires c κs = search needs
-
 returns-3 : tie.Need-returns-3
 returns-3 c = ap not (c .is-dots .ensures) ∙ name-by-dots _ (c .before .before .if1 .left) (c .before .if2 .left) (c .before .before .before .before .pre)
 
 pub valid-length-spec : {M : Type 1} → statement M
-valid-length-spec = tie.close (tie.spec returns returns-2 is-dots-requires returns-3)
+valid-length-spec = tie.close (tie.spec returns returns-2 (λ c κs. search needs) returns-3)

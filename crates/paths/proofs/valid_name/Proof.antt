@@ -7,9 +7,6 @@ use borrow.Author.Needs.{needs}
 use Rattle.paths.proofs.valid_name.Statement.{statement}
 use Rattle.paths.proofs.valid_name.Tie as tie
 
-clean-end-requires : tie.Need-clean-end-requires
-clean-end-requires c κs = search needs
-
 returns : tie.Need-returns
 returns c = sym (name-broken _ (clean-short _ (λ e. c .if1 .taken (c .before .clean-end .ensures ∙ omega (arith, e)))))
 
@@ -20,4 +17,4 @@ returns-2 : tie.Need-returns-2
 returns-2 c = search needs
 
 pub valid-name-spec : {M : Type 1} → statement M
-valid-name-spec = tie.close (tie.spec clean-end-requires returns valid-length-requires returns-2)
+valid-name-spec = tie.close (tie.spec (λ c κs. search needs) returns valid-length-requires returns-2)

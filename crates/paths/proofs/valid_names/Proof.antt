@@ -7,20 +7,11 @@ use borrow.Author.Needs.{needs}
 use Rattle.paths.proofs.valid_names.Statement.{statement}
 use Rattle.paths.proofs.valid_names.Tie as tie
 
-shared-slice-read-if1 : tie.Need-shared-slice-read-if1
-shared-slice-read-if1 c = search needs
-
 returns : tie.Need-returns
 returns c = sym (slash-alone _ (c .before .if1 .taken) (c .if2 .taken))
 
-valid-parts-requires : tie.Need-valid-parts-requires
-valid-parts-requires c κs = search needs
-
 returns-2 : tie.Need-returns-2
 returns-2 c = c .valid-parts .ensures ∙ ap (all valid-name) (sym (names-of-absolute _ (c .before .before .before .before .before .pre) (c .before .before .if1 .taken) (c .before .if2 .left)))
-
-valid-parts-requires-2 : tie.Need-valid-parts-requires-2
-valid-parts-requires-2 c κs = search needs
 
 returns-3 : tie.Need-returns-3
 returns-3 c = c .valid-parts2 .ensures ∙ ap (all valid-name) (sym (names-of-relative _ (c .before .before .before .before .pre) (c .before .if1 .left)))
@@ -28,10 +19,4 @@ returns-3 c = c .valid-parts2 .ensures ∙ ap (all valid-name) (sym (names-of-re
 pub valid-names-spec : {M : Type 1} → statement M
 valid-names-spec =
     tie.close
-    (tie.spec
-    shared-slice-read-if1
-    returns
-    valid-parts-requires
-    returns-2
-    valid-parts-requires-2
-    returns-3)
+    (tie.spec (λ c. search needs) returns (λ c κs. search needs) returns-2 (λ c κs. search needs) returns-3)

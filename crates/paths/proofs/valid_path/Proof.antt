@@ -11,14 +11,8 @@ returns c = sym (path-empty _ (c .if1 .taken))
 returns-2 : tie.Need-returns-2
 returns-2 c = sym (path-longer _ (c .before .if1 .left) (c .if2 .taken))
 
-shared-slice-read-if3 : tie.Need-shared-slice-read-if3
-shared-slice-read-if3 c = search needs
-
 returns-3 : tie.Need-returns-3
 returns-3 c = sym (path-relative _ (c .before .before .before .if1 .left) (c .before .before .if2 .left) (c .if3 .taken))
-
-valid-names-requires : tie.Need-valid-names-requires
-valid-names-requires c κs = search needs
 
 returns-4 : tie.Need-returns-4
 returns-4 c = c .valid-names .ensures ∙ sym (path-by-names _ (c .before .before .before .before .if1 .left) (c .before .before .before .if2 .left) (c .before .if3 .left))
@@ -26,4 +20,4 @@ returns-4 c = c .valid-names .ensures ∙ sym (path-by-names _ (c .before .befor
 pub valid-path-spec : {M : Type 1} → statement M
 valid-path-spec =
     tie.close
-    (tie.spec returns returns-2 shared-slice-read-if3 returns-3 valid-names-requires returns-4)
+    (tie.spec returns returns-2 (λ c. search needs) returns-3 (λ c κs. search needs) returns-4)

@@ -2,17 +2,12 @@
 use Prim.Native.Nat.{_-_, _≤_}
 use native.Mathlib.Omega.{arith}
 use borrow.Author.Needs.{needs}
-use Rattle.model.specs.Holds.{add-holds}
-use Rattle.model.specs.Words.{unpack}
-use Rattle.rows.specs.Stands.{with-holds}
-use Rattle.plans.proofs.Planning.{add-begin, add-end, add-on, adding, fine-row}
-use Rattle.holds.proofs.Towards.{Towards}
-use Rattle.plans.specs.Plans.{planned-holds}
+use Rattle.plans.proofs.Planning.{Left-to-add, add-begin, add-end, add-on, fine-row}
 use Rattle.plans.proofs.add_planned.Statement.{statement}
 use Rattle.plans.proofs.add_planned.Tie as tie
 
 abbrev Inv-loop : tie.InvT-loop
-Inv-loop words₀ plan count i₀ words i = (i ≤ plan .count) × (Towards (adding plan) (with-holds (unpack words₀) (add-holds (planned-holds plan) (unpack words₀ .holds))) i words)
+Inv-loop words₀ plan count i₀ words i = (i ≤ plan .count) × (Left-to-add plan words₀ i words)
 
 abbrev μ-loop : tie.MeasureT-loop
 μ-loop words₀ plan count i₀ words i = plan .count - i
@@ -24,34 +19,26 @@ row-of-requires : tie.Need-row-of-requires Inv-loop μ-loop
 row-of-requires c κs = ((c .before .before .before .before .pre .1), c .before .loop-test .taken)
 
 add-hold-requires : tie.Need-add-hold-requires Inv-loop μ-loop
-add-hold-requires c κs = (c .before .before .before .loop .inv .1 .stands, fine-row (c .before .before .before .before .before .args .plan) (c .before .before .before .before .before .pre .1) (c .before .before .before .loop .i) (c .row-of .ensures))
-
-add-i : tie.Need-add-i Inv-loop μ-loop
-add-i c = omega arith
-
-loop-less : tie.Need-loop-less Inv-loop μ-loop
-loop-less c = omega arith
+add-hold-requires c κs =
+    let at-loop = c .before .before .before in let start = at-loop .before .before in
+    (at-loop .loop .inv .1 .stands, fine-row (start .args .plan) (start .pre .1) (at-loop .loop .i) (c .row-of .ensures))
 
 loop-again : tie.Need-loop-again Inv-loop μ-loop
-loop-again c = (omega arith, add-on (c .before .before .before .before .before .before .before .before .args .plan) (c .before .before .before .before .before .before .before .before .pre .1) (c .before .before .before .before .before .before .loop .i) (c .before .before .before .before .before .loop-test .taken) (c .before .before .before .row-of .ensures) (c .before .before .before .before .before .before .loop .inv .1) (c .before .before .add-hold .ensures))
+loop-again c =
+    let at-add-hold = c .before .before in let at-row-of = at-add-hold .before in let at-loop-test = at-row-of .before .before in let at-loop = at-loop-test .before in
+    let start = at-loop .before .before in (
+      omega arith,
+      add-on (start .args .plan) (start .pre .1) (at-loop .loop .i) (at-loop-test .loop-test .taken) (at-row-of .row-of .ensures) (at-loop .loop .inv .1)
+          (at-add-hold .add-hold .ensures),
+    )
 
 same-length : tie.Need-same-length Inv-loop μ-loop
 same-length c = omega (arith, c .before .loop .inv .1 .stands .long, c .before .before .before .pre .0 .long)
 
 returns : tie.Need-returns Inv-loop μ-loop
-returns c = add-end (c .before .before .before .args .plan) (c .before .before .before .pre .1) (c .before .loop .i) (c .loop-test .left) (c .before .loop .inv .1)
+returns c =
+    let at-loop = c .before in let start = at-loop .before .before in
+    add-end (start .args .plan) (start .pre .1) (at-loop .loop .i) (c .loop-test .left) (at-loop .loop .inv .1)
 
 pub add-planned-spec : {M : Type 1} → statement M
-add-planned-spec =
-    tie.close
-    (tie.spec
-    Inv-loop
-    μ-loop
-    loop-holds
-    row-of-requires
-    add-hold-requires
-    add-i
-    loop-less
-    loop-again
-    same-length
-    returns)
+add-planned-spec = tie.close (tie.spec Inv-loop μ-loop loop-holds row-of-requires add-hold-requires (λ c. omega arith) (λ c. omega arith) loop-again same-length returns)

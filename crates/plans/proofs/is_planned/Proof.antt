@@ -26,34 +26,34 @@ row-of-requires : tie.Need-row-of-requires Inv-loop μ-loop
 row-of-requires c κs = ((c .before .before .pre .0), c .loop-test .taken)
 
 same-holds-requires : tie.Need-same-holds-requires Inv-loop μ-loop
-same-holds-requires c κs = (c .before .before .before .pre .1, fine-row (c .before .before .before .args .plan) (c .before .before .before .pre .0) (c .before .before .loop .i) (c .row-of .ensures) .name)
+same-holds-requires c κs =
+    let at-loop = c .before .before in let start = at-loop .before in
+    (start .pre .1, fine-row (start .args .plan) (start .pre .0) (at-loop .loop .i) (c .row-of .ensures) .name)
 
 returns : tie.Need-returns Inv-loop μ-loop
-returns c = any-found (same-hold (hold-of (c .before .before .before .before .before .args .hold))) (hold-of blank-row) (planned-holds (c .before .before .before .before .before .args .plan)) (c .before .before .before .before .loop .i) (omega (arith, planned-long (c .before .before .before .before .before .args .plan) (c .before .before .before .before .before .pre .0))) (planned-test (c .before .before .before .before .before .args .plan) (c .before .before .before .before .before .pre .0) (same-hold (hold-of (c .before .before .before .before .before .args .hold))) (c .before .before .before .before .loop .i) (c .before .before .before .loop-test .taken) (c .before .before .row-of .ensures) (c .before .same-holds .ensures) (c .if1 .taken)) (c .before .before .before .before .loop .inv .1)
-
-add-i : tie.Need-add-i Inv-loop μ-loop
-add-i c = omega arith
-
-loop-less : tie.Need-loop-less Inv-loop μ-loop
-loop-less c = omega arith
+returns c =
+    let at-same-holds = c .before in let at-row-of = at-same-holds .before in let at-loop-test = at-row-of .before in let at-loop = at-loop-test .before in
+    let start = at-loop .before in let hold = start .args .hold in let plan = start .args .plan in
+    any-found (same-hold (hold-of hold)) (hold-of blank-row) (planned-holds plan) (at-loop .loop .i) (omega (arith, planned-long plan (start .pre .0)))
+    (planned-test plan (start .pre .0) (same-hold (hold-of hold)) (at-loop .loop .i) (at-loop-test .loop-test .taken) (at-row-of .row-of .ensures)
+    (at-same-holds .same-holds .ensures) (c .if1 .taken)) (at-loop .loop .inv .1)
 
 loop-again : tie.Need-loop-again Inv-loop μ-loop
-loop-again c = (omega arith, any-onward (same-hold (hold-of (c .before .before .before .before .before .args .hold))) (hold-of blank-row) (planned-holds (c .before .before .before .before .before .args .plan)) (c .before .before .before .before .loop .i) (omega (arith, planned-long (c .before .before .before .before .before .args .plan) (c .before .before .before .before .before .pre .0))) (planned-test (c .before .before .before .before .before .args .plan) (c .before .before .before .before .before .pre .0) (same-hold (hold-of (c .before .before .before .before .before .args .hold))) (c .before .before .before .before .loop .i) (c .before .before .before .loop-test .taken) (c .before .before .row-of .ensures) (c .before .same-holds .ensures) (c .if1 .left)) (c .before .before .before .before .loop .inv .1))
+loop-again c =
+    let at-same-holds = c .before in let at-row-of = at-same-holds .before in let at-loop-test = at-row-of .before in let at-loop = at-loop-test .before in
+    let start = at-loop .before in
+    let hold = start .args .hold in let plan = start .args .plan in (
+      omega arith,
+      any-onward (same-hold (hold-of hold)) (hold-of blank-row) (planned-holds plan) (at-loop .loop .i) (omega (arith, planned-long plan (start .pre .0)))
+          (planned-test plan (start .pre .0) (same-hold (hold-of hold)) (at-loop .loop .i) (at-loop-test .loop-test .taken) (at-row-of .row-of .ensures)
+          (at-same-holds .same-holds .ensures) (c .if1 .left)) (at-loop .loop .inv .1),
+    )
 
 returns-2 : tie.Need-returns-2 Inv-loop μ-loop
-returns-2 c = any-nowhere (same-hold (hold-of (c .before .before .args .hold))) (hold-of blank-row) (planned-holds (c .before .before .args .plan)) (c .before .loop .i) (omega (arith, planned-long (c .before .before .args .plan) (c .before .before .pre .0))) (c .before .loop .inv .1)
+returns-2 c =
+    let at-loop = c .before in let start = at-loop .before in let plan = start .args .plan in
+    any-nowhere (same-hold (hold-of (start .args .hold))) (hold-of blank-row) (planned-holds plan) (at-loop .loop .i) (omega (arith, planned-long plan (start .pre .0)))
+    (at-loop .loop .inv .1)
 
 pub is-planned-spec : {M : Type 1} → statement M
-is-planned-spec =
-    tie.close
-    (tie.spec
-    Inv-loop
-    μ-loop
-    loop-holds
-    row-of-requires
-    same-holds-requires
-    returns
-    add-i
-    loop-less
-    loop-again
-    returns-2)
+is-planned-spec = tie.close (tie.spec Inv-loop μ-loop loop-holds row-of-requires same-holds-requires returns (λ c. omega arith) (λ c. omega arith) loop-again returns-2)

@@ -8,16 +8,10 @@ use Rattle.plans.proofs.lacks_room.Tie as tie
 returns : tie.Need-returns
 returns c = room-for-none (c .before .before .args .plan) (c .before .before .pre .1) (unpack (c .before .before .args .words .now)) (c .if1 .taken)
 
-free-hold-rows-requires : tie.Need-free-hold-rows-requires
-free-hold-rows-requires c κs = search needs
-
 returns-2 : tie.Need-returns-2
-returns-2 c = room-is (c .before .before .before .args .plan) (c .before .before .before .pre .1) (unpack (c .before .before .before .args .words .now)) (c .free-hold-rows .ensures)
+returns-2 c =
+    let start = c .before .before .before in
+    room-is (start .args .plan) (start .pre .1) (unpack (start .args .words .now)) (c .free-hold-rows .ensures)
 
 pub lacks-room-spec : {M : Type 1} → statement M
-lacks-room-spec =
-    tie.close
-    (tie.spec
-    returns
-    free-hold-rows-requires
-    returns-2)
+lacks-room-spec = tie.close (tie.spec returns (λ c κs. search needs) returns-2)

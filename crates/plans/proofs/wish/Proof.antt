@@ -5,39 +5,23 @@ use Rattle.plans.proofs.Planning.{held-before, planned-before, planned-
 use Rattle.plans.proofs.wish.Statement.{statement}
 use Rattle.plans.proofs.wish.Tie as tie
 
-has-hold-requires : tie.Need-has-hold-requires
-has-hold-requires c κs = search needs
-
 returns : tie.Need-returns
-returns c = held-before (unpack (c .before .before .before .args .words .now) .holds) (c .before .before .before .args .plan) (c .before .before .before .pre .1 .0) (c .before .before .before .args .hold) (c .before .has-hold .ensures) (c .if1 .taken)
-
-is-planned-requires : tie.Need-is-planned-requires
-is-planned-requires c κs = search needs
+returns c =
+    let at-has-hold = c .before in let start = at-has-hold .before .before in
+    held-before (unpack (start .args .words .now) .holds) (start .args .plan) (start .pre .1 .0) (start .args .hold) (at-has-hold .has-hold .ensures) (c .if1 .taken)
 
 returns-2 : tie.Need-returns-2
-returns-2 c = planned-before (unpack (c .before .before .before .before .before .args .words .now) .holds) (c .before .before .before .before .before .args .plan) (c .before .before .before .before .before .pre .1 .0) (c .before .before .before .before .before .args .hold) (c .before .before .before .has-hold .ensures) (c .before .before .if1 .left) (c .before .is-planned .ensures) (c .if2 .taken)
-
-mul-rows : tie.Need-mul-rows
-mul-rows c = search needs
-
-array-set-from-rows : tie.Need-array-set-from-rows
-array-set-from-rows c = search needs
-
-add-t8 : tie.Need-add-t8
-add-t8 c = search needs
+returns-2 c =
+    let at-is-planned = c .before in let at-if1 = at-is-planned .before in let at-has-hold = at-if1 .before in let start = at-has-hold .before .before in
+    planned-before (unpack (start .args .words .now) .holds) (start .args .plan) (start .pre .1 .0) (start .args .hold) (at-has-hold .has-hold .ensures)
+    (at-if1 .if1 .left) (at-is-planned .is-planned .ensures) (c .if2 .taken)
 
 returns-3 : tie.Need-returns-3
-returns-3 c = planned-new (unpack (c .before .before .before .before .before .before .args .words .now) .holds) (c .before .before .before .before .before .before .args .plan) (c .before .before .before .before .before .before .pre .1 .0) (c .before .before .before .before .before .before .args .hold) (c .before .before .before .before .has-hold .ensures) (c .before .before .before .if1 .left) (c .before .before .is-planned .ensures) (c .before .if2 .left) (c .before .before .before .before .before .before .pre .1 .1 .0) (c .before .before .before .before .before .before .pre .1 .1 .1)
+returns-3 c =
+    let at-if2 = c .before in let at-is-planned = at-if2 .before in let at-if1 = at-is-planned .before in let at-has-hold = at-if1 .before in
+    let start = at-has-hold .before .before in
+    planned-new (unpack (start .args .words .now) .holds) (start .args .plan) (start .pre .1 .0) (start .args .hold) (at-has-hold .has-hold .ensures) (at-if1 .if1 .left)
+    (at-is-planned .is-planned .ensures) (at-if2 .if2 .left) (start .pre .1 .1 .0) (start .pre .1 .1 .1)
 
 pub wish-spec : {M : Type 1} → statement M
-wish-spec =
-    tie.close
-    (tie.spec
-    has-hold-requires
-    returns
-    is-planned-requires
-    returns-2
-    mul-rows
-    array-set-from-rows
-    add-t8
-    returns-3)
+wish-spec = tie.close (tie.spec (λ c κs. search needs) returns (λ c κs. search needs) returns-2 (λ c. search needs) (λ c. search needs) (λ c. search needs) returns-3)

@@ -6,16 +6,9 @@ use Rattle.model.specs.Calls.{unlisted}
 use Rattle.processes.proofs.is_unlisted.Statement.{statement}
 use Rattle.processes.proofs.is_unlisted.Tie as tie
 
-is-listed-requires : tie.Need-is-listed-requires
-is-listed-requires c κs = search needs
-
 returns : tie.Need-returns
 unfolding unlisted
 returns c = ap not (c .is-listed .ensures)
 
 pub is-unlisted-spec : {M : Type 1} → statement M
-is-unlisted-spec =
-    tie.close
-    (tie.spec
-    is-listed-requires
-    returns)
+is-unlisted-spec = tie.close (tie.spec (λ c κs. search needs) returns)

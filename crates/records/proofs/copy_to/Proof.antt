@@ -20,21 +20,6 @@ abbrev μ-loop : tie.MeasureT-loop
 loop-holds : tie.Need-loop-holds Inv-loop μ-loop
 loop-holds c = (omega arith, paste-zero (c .args .destination .now) (c .args .at) (c .args .source .now), refl)
 
-shared-slice-read-destination : tie.Need-shared-slice-read-destination Inv-loop μ-loop
-shared-slice-read-destination c = omega arith
-
-add-destination : tie.Need-add-destination Inv-loop μ-loop
-add-destination c = omega arith
-
-slice-write-destination : tie.Need-slice-write-destination Inv-loop μ-loop
-slice-write-destination c = omega arith
-
-add-i : tie.Need-add-i Inv-loop μ-loop
-add-i c = omega arith
-
-loop-less : tie.Need-loop-less Inv-loop μ-loop
-loop-less c = omega arith
-
 loop-again : tie.Need-loop-again Inv-loop μ-loop
 loop-again c = (
   omega arith,
@@ -47,21 +32,13 @@ same-length c = c .before .loop .inv .2
 
 returns : tie.Need-returns Inv-loop μ-loop
 returns c =
-    c .before .loop .inv .1
-    ∙ ap (λ (n : ℕ). paste (c .before .before .args .destination .now) (c .before .before .args .at) (c .before .before .args .source .now) n) (le-antisymm (c .before .loop .inv .0) (c .loop-test .left))
+    let at-loop = c .before in
+    let start = at-loop .before .args in
+    at-loop .loop .inv .1
+    ∙ ap (λ (n : ℕ). paste (start .destination .now) (start .at) (start .source .now) n) (le-antisymm (at-loop .loop .inv .0) (c .loop-test .left))
 
 pub copy-to-spec : {M : Type 1} → statement M
 copy-to-spec =
     tie.close
-    (tie.spec
-    Inv-loop
-    μ-loop
-    loop-holds
-    shared-slice-read-destination
-    add-destination
-    slice-write-destination
-    add-i
-    loop-less
-    loop-again
-    same-length
-    returns)
+    (tie.spec Inv-loop μ-loop loop-holds (λ c. omega arith) (λ c. omega arith) (λ c. omega arith) (λ c. omega arith) (λ c. omega arith) loop-again
+    same-length returns)

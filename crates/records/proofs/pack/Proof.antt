@@ -1,62 +1,54 @@
 -- `records::pack` meets its contract. Assumes nothing.
+use mathlib.Core.List.{List}
+use Prim.Native.Nat.{ℕ}
 use native.Mathlib.Omega.{arith}
+use Rattle.fields.specs.declared.Numbers.{Numbers}
 use Rattle.records.proofs.Packings.{numbers, fault-packs, head-fits, full-packs, record-packs}
 use borrow.Author.Needs.{needs}
 use Rattle.records.proofs.pack.Statement.{statement}
 use Rattle.records.proofs.pack.Tie as tie
 
-fault-requires : tie.Need-fault-requires
-fault-requires c κs = search needs
+-- the numbers at the start of the fields' test
+abbrev given : tie.After-fault → Numbers
+given f = let start = f .before .before .before .before .args in numbers (start .call) (start .process) (start .argument)
+
+abbrev destination : tie.After-fault → List ℕ
+destination f = f .before .before .before .before .args .destination .now
 
 returns : tie.Need-returns
-returns c =
-    let f = c .before .fault in
-    let start = c .before .before .before .before .before in
-    fault-packs (numbers (start .args .call) (start .args .process) (start .args .argument)) _ _ (f .ensures) (start .args .destination .now) (c .if1 .taken)
-
-add-length : tie.Need-add-length
-add-length c = search needs
+returns c = let f = c .before in fault-packs (given f) _ _ (f .fault .ensures) (destination f) (c .if1 .taken)
 
 add-length-2 : tie.Need-add-length-2
 add-length-2 c =
-    let f = c .before .fault in
-    let start = c .before .before .before .before .before in
-    let fits = head-fits (numbers (start .args .call) (start .args .process) (start .args .argument)) _ _ (f .ensures) (c .if1 .left) (search needs) (search needs) in
+    let f = c .before in
+    let fits = head-fits (given f) _ _ (f .fault .ensures) (c .if1 .left) (search needs) (search needs) in
     omega arith
 
 returns-2 : tie.Need-returns-2
 returns-2 c =
-    let f = c .before .before .fault in
-    let start = c .before .before .before .before .before .before in
-    full-packs (numbers (start .args .call) (start .args .process) (start .args .argument)) _ _ (f .ensures) (c .before .if1 .left) (start .args .destination .now) (c .if2 .taken)
+    let right = c .before in
+    let f = right .before in
+    full-packs (given f) _ _ (f .fault .ensures) (right .if1 .left) (destination f) (c .if2 .taken)
 
 write-record-requires : tie.Need-write-record-requires
 write-record-requires c κs =
-    let f = c .before .before .before .fault in
-    let start = c .before .before .before .before .before .before .before in
+    let room = c .before in
+    let right = room .before in
+    let f = right .before in
     record {
-      fits = head-fits (numbers (start .args .call) (start .args .process) (start .args .argument)) _ _ (f .ensures) (c .before .before .if1 .left) (search needs) (search needs);
-      room = c .before .if2 .left;
+      fits = head-fits (given f) _ _ (f .fault .ensures) (right .if1 .left) (search needs) (search needs);
+      room = room .if2 .left;
     }
-
-same-length : tie.Need-same-length
-same-length c = search needs
 
 returns-3 : tie.Need-returns-3
 returns-3 c =
-    let f = c .before .before .before .before .before .before .fault in
-    let start = c .before .before .before .before .before .before .before .before .before .before in
-    record-packs (numbers (start .args .call) (start .args .process) (start .args .argument)) _ _ (f .ensures) (c .before .before .before .before .before .if1 .left) (start .args .destination .now) _ (c .before .before .before .before .if2 .left) (c .before .before .write-record .ensures)
+    let written = c .before .before in
+    let room = written .before .before in
+    let right = room .before in
+    let f = right .before in
+    record-packs (given f) _ _ (f .fault .ensures) (right .if1 .left) (destination f) _ (room .if2 .left) (written .write-record .ensures)
 
 pub pack-spec : {M : Type 1} → statement M
 pack-spec =
     tie.close
-    (tie.spec
-    fault-requires
-    returns
-    add-length
-    add-length-2
-    returns-2
-    write-record-requires
-    same-length
-    returns-3)
+    (tie.spec (λ c κs. search needs) returns (λ c. search needs) add-length-2 returns-2 write-record-requires (λ c. search needs) returns-3)

@@ -4,35 +4,18 @@ use borrow.Author.Needs.{needs}
 use Rattle.records.proofs.write_record.Statement.{statement}
 use Rattle.records.proofs.write_record.Tie as tie
 
-add-middle : tie.Need-add-middle
-add-middle c = search needs
-
-joined-head-requires : tie.Need-joined-head-requires
-joined-head-requires c κs = search needs
-
-write-head-requires : tie.Need-write-head-requires
-write-head-requires c κs = search needs
-
-copy-to-requires : tie.Need-copy-to-requires
-copy-to-requires c κs = search needs
-
-copy-to-requires-2 : tie.Need-copy-to-requires-2
-copy-to-requires-2 c κs = search needs
-
-same-length : tie.Need-same-length
-same-length c = search needs
-
 returns : tie.Need-returns
-returns c = record-written _ _ _ (c .before .before .before .before .before .before .before .before .before .before .before .before .before .before .before .before .args .destination .now) _ _ _ _ (c .before .before .before .before .before .before .before .before .before .before .before .before .joined-head .ensures) (c .before .before .before .before .before .before .before .before .before .before .write-head .ensures) (c .before .before .before .before .before .before .copy-to .ensures) (c .before .before .copy-to2 .ensures)
+returns c =
+    let path2 = c .before .before in
+    let path1 = path2 .before .before .before .before in
+    let written = path1 .before .before .before .before in
+    let joined = written .before .before in
+    let start = joined .before .before .before .before in
+    record-written _ _ _ (start .args .destination .now) _ _ _ _ (joined .joined-head .ensures) (written .write-head .ensures)
+    (path1 .copy-to .ensures) (path2 .copy-to2 .ensures)
 
 pub write-record-spec : {M : Type 1} → statement M
 write-record-spec =
     tie.close
-    (tie.spec
-    add-middle
-    joined-head-requires
-    write-head-requires
-    copy-to-requires
-    copy-to-requires-2
-    same-length
+    (tie.spec (λ c. search needs) (λ c κs. search needs) (λ c κs. search needs) (λ c κs. search needs) (λ c κs. search needs) (λ c. search needs)
     returns)

@@ -1,42 +1,41 @@
--- `removals::unlink` meets its contract: the walk, and the rest behind it. Assumes nothing.
+-- `removals::unlink` meets its contract: refused on the way, or what stands behind the walk. Assumes nothing.
 use mathlib.Core.Bool.{false}
 use borrow.Author.Needs.{needs}
-use Rattle.model.specs.Calls.{unlink}
-use Rattle.accepted.proofs.Asking.{first-fits, first-passes, first-refuses}
+use Rattle.model.specs.Calls.{unlink, unlink-at}
+use Rattle.model.specs.Words.{unpack}
+use Rattle.reaching.proofs.Ways.{came, goes-on, refused-on-the-way}
 use Rattle.removals.proofs.unlink.Statement.{statement}
 use Rattle.removals.proofs.unlink.Tie as tie
 
-reach-requires : tie.Need-reach-requires
-reach-requires c κs = search needs
+unlink-at-requires : tie.Need-unlink-at-requires
+unlink-at-requires c κs =
+    let told = c .before .before in
+    let reached = told .before .before .before in
+    let start = reached .before .before .before .before in
+    came (start .pre .0) (start .pre .1) false (reached .reach .ensures) (told .way2 .given .1) .behind
 
-enum-known-stop : tie.Need-enum-known-stop
-enum-known-stop c = search needs
-
-same-length : tie.Need-same-length
-same-length c = search needs
-
+-- path 1 leads nowhere
 returns : tie.Need-returns
 unfolding unlink
-returns c = first-refuses (c .before .before .before .before .before .before .before .pre .0) (c .before .before .before .before .before .before .before .pre .1) false (c .before .before .before .reach .ensures) _ (c .before .stop .given .1)
+returns c =
+    let told = c .before in
+    let reached = told .before .before .before in
+    let start = reached .before .before .before .before in
+    refused-on-the-way (start .pre .0) (start .pre .1) false (reached .reach .ensures) (told .way .given .1) _
 
-unlink-at-requires : tie.Need-unlink-at-requires
-unlink-at-requires c κs = (c .before .before .before .before .before .before .pre .0 .indexed .stands, first-fits (c .before .before .before .before .before .before .pre .0) (c .before .before .before .before .before .before .pre .1) false (c .before .before .reach .ensures))
-
-same-length-2 : tie.Need-same-length-2
-same-length-2 c = search needs
-
+-- or to this goal
 returns-2 : tie.Need-returns-2
 unfolding unlink
-returns-2 c = first-passes (c .before .before .before .before .before .before .before .before .before .pre .0) (c .before .before .before .before .before .before .before .before .before .pre .1) false (c .before .before .before .before .before .reach .ensures) _ (c .before .before .before .before .match .keys2) (c .before .before .unlink-at .ensures)
+returns-2 c =
+    let done = c .before .before in
+    let told = done .before .before .before in
+    let reached = told .before .before .before in
+    let start = reached .before .before .before .before in
+    let goal = came (start .pre .0) (start .pre .1) false (reached .reach .ensures) (told .way2 .given .1) in
+    goes-on goal (unlink-at (unpack (start .args .words .now))) (done .unlink-at .ensures)
 
 pub unlink-spec : {M : Type 1} → statement M
 unlink-spec =
     tie.close
-    (tie.spec
-    reach-requires
-    enum-known-stop
-    same-length
-    returns
-    unlink-at-requires
-    same-length-2
+    (tie.spec (λ c κs. search needs) (λ c. search needs) (λ c. search needs) unlink-at-requires (λ c. search needs) returns (λ c. search needs)
     returns-2)

@@ -7,17 +7,22 @@ use lib.Seq.{getD-drop, getD-take}
 use Rattle.rows.proofs.byte_or_zero.Statement.{statement}
 use Rattle.rows.proofs.byte_or_zero.Tie as tie
 
-add-result : tie.Need-add-result
-add-result c = search needs
-
-shared-slice-read-result : tie.Need-shared-slice-read-result
-shared-slice-read-result c = search needs
-
 returns : tie.Need-returns
-returns c = sym (getD-take (c .before .before .args .count) (drop (c .before .before .args .from) (c .before .before .args .path .now)) (c .before .before .args .k) 0 (c .before .if1 .taken) ∙ getD-drop (c .before .before .args .from) (c .before .before .args .path .now) (c .before .before .args .k) 0)
+returns c =
+    let test-1 = c .before in
+    let start = test-1 .before in
+    let path = start .args .path .now in
+    let from = start .args .from in
+    let k = start .args .k in
+    sym (getD-take (start .args .count) (drop from path) k 0 (test-1 .if1 .taken) ∙ getD-drop from path k 0)
 
 returns-2 : tie.Need-returns-2
-returns-2 c = sym (List·getD-eq-default (take (c .before .args .count) (drop (c .before .args .from) (c .before .args .path .now))) 0 (omega (arith, length-take (c .before .args .count) (drop (c .before .args .from) (c .before .args .path .now)))))
+returns-2 c =
+    let start = c .before in
+    let path = start .args .path .now in
+    let count = start .args .count in
+    let from = start .args .from in
+    sym (List·getD-eq-default (take count (drop from path)) 0 (omega (arith, length-take count (drop from path))))
 
 pub byte-or-zero-spec : {M : Type 1} → statement M
-byte-or-zero-spec = tie.close (tie.spec add-result shared-slice-read-result returns returns-2)
+byte-or-zero-spec = tie.close (tie.spec (λ c. search needs) (λ c. search needs) returns returns-2)

@@ -10,19 +10,19 @@ use Rattle.rows.proofs.node_count.Statement.{statement}
 use Rattle.rows.proofs.node_count.Tie as tie
 
 returns : tie.Need-returns
-returns c = ap (λ (x : Node). x .count) (sym (no-such-node (c .before .before .args .words .now) (c .before .before .args .node) (inl (c .if1 .taken))))
+returns c =
+    let start = c .before .before in
+    ap (λ (x : Node). x .count) (sym (no-such-node (start .args .words .now) (start .args .node) (inl (c .if1 .taken))))
 
 returns-2 : tie.Need-returns-2
-returns-2 c = ap (λ (x : Node). x .count) (sym (no-such-node (c .before .before .before .args .words .now) (c .before .before .before .args .node) (inr (c .if2 .taken))))
-
-sub-count-in : tie.Need-sub-count-in
-sub-count-in c = search needs
-
-count-in-requires : tie.Need-count-in-requires
-count-in-requires c κs = search needs
+returns-2 c =
+    let start = c .before .before .before in
+    ap (λ (x : Node). x .count) (sym (no-such-node (start .args .words .now) (start .args .node) (inr (c .if2 .taken))))
 
 returns-3 : tie.Need-returns-3
-returns-3 c = c .count-in .ensures ∙ ap (λ (x : Node). x .count) (sym (node-in-row (unpack (c .before .before .before .before .args .words .now) .nodes) (c .before .before .before .before .args .node) (omega arith)))
+returns-3 c =
+    let start = c .before .before .before .before in
+    c .count-in .ensures ∙ ap (λ (x : Node). x .count) (sym (node-in-row (unpack (start .args .words .now) .nodes) (start .args .node) (omega arith)))
 
 pub node-count-spec : {M : Type 1} → statement M
-node-count-spec = tie.close (tie.spec returns returns-2 sub-count-in count-in-requires returns-3)
+node-count-spec = tie.close (tie.spec returns returns-2 (λ c. search needs) (λ c κs. search needs) returns-3)

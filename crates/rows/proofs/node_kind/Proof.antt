@@ -10,19 +10,19 @@ use Rattle.rows.proofs.node_kind.Statement.{statement}
 use Rattle.rows.proofs.node_kind.Tie as tie
 
 returns : tie.Need-returns
-returns c = ap (λ (x : Node). x .kind) (sym (no-such-node (c .before .before .args .words .now) (c .before .before .args .node) (inl (c .if1 .taken))))
+returns c =
+    let start = c .before .before in
+    ap (λ (x : Node). x .kind) (sym (no-such-node (start .args .words .now) (start .args .node) (inl (c .if1 .taken))))
 
 returns-2 : tie.Need-returns-2
-returns-2 c = ap (λ (x : Node). x .kind) (sym (no-such-node (c .before .before .before .args .words .now) (c .before .before .before .args .node) (inr (c .if2 .taken))))
-
-sub-kind-in : tie.Need-sub-kind-in
-sub-kind-in c = search needs
-
-kind-in-requires : tie.Need-kind-in-requires
-kind-in-requires c κs = search needs
+returns-2 c =
+    let start = c .before .before .before in
+    ap (λ (x : Node). x .kind) (sym (no-such-node (start .args .words .now) (start .args .node) (inr (c .if2 .taken))))
 
 returns-3 : tie.Need-returns-3
-returns-3 c = c .kind-in .ensures ∙ ap (λ (x : Node). x .kind) (sym (node-in-row (unpack (c .before .before .before .before .args .words .now) .nodes) (c .before .before .before .before .args .node) (omega arith)))
+returns-3 c =
+    let start = c .before .before .before .before in
+    c .kind-in .ensures ∙ ap (λ (x : Node). x .kind) (sym (node-in-row (unpack (start .args .words .now) .nodes) (start .args .node) (omega arith)))
 
 pub node-kind-spec : {M : Type 1} → statement M
-node-kind-spec = tie.close (tie.spec returns returns-2 sub-kind-in kind-in-requires returns-3)
+node-kind-spec = tie.close (tie.spec returns returns-2 (λ c. search needs) (λ c κs. search needs) returns-3)

@@ -16,26 +16,11 @@ Inv-loop words₀ records answers₀ heads₀ next₀ is-sound served₀ taken�
 abbrev μ-loop : tie.MeasureT-loop
 μ-loop words₀ records answers₀ heads₀ next₀ is-sound served₀ taken₀ words answers heads next served taken = length answers₀ - served
 
-sound-and-index-requires : tie.Need-sound-and-index-requires Inv-loop μ-loop
-sound-and-index-requires c κs = search needs
-
 loop-holds : tie.Need-loop-holds Inv-loop μ-loop
 loop-holds c = going-starts (record { right = c .sound-and-index .ensures .0; indexed = c .sound-and-index .ensures .1 })
 
-sub-bytes : tie.Need-sub-bytes Inv-loop μ-loop
-sub-bytes c = search needs
-
 part-bytes-start : tie.Need-part-bytes-start Inv-loop μ-loop
 part-bytes-start c = omega (arith, c .before .loop .inv .inside)
-
-part-bytes-end : tie.Need-part-bytes-end Inv-loop μ-loop
-part-bytes-end c = search needs
-
-read-requires : tie.Need-read-requires Inv-loop μ-loop
-read-requires c κs = search needs
-
-is-cut-short-requires : tie.Need-is-cut-short-requires Inv-loop μ-loop
-is-cut-short-requires c κs = search needs
 
 same-length : tie.Need-same-length Inv-loop μ-loop
 same-length c = c .before .before .before .before .before .loop .inv .words-long
@@ -44,35 +29,41 @@ same-length-2 : tie.Need-same-length-2 Inv-loop μ-loop
 same-length-2 c = c .before .before .before .before .before .loop .inv .slots-long
 
 returns : tie.Need-returns Inv-loop μ-loop
-returns c = stops-cut (c .before .before .before .before .before .loop .inv) (c .before .before .read .ensures) (c .before .is-cut-short .ensures) (c .if1 .taken)
+returns c =
+    let asked = c .before in
+    let going = asked .before .before .before .before .loop .inv in
+    stops-cut going (asked .before .read .ensures) (asked .is-cut-short .ensures) (c .if1 .taken)
 
 serve-found-requires : tie.Need-serve-found-requires Inv-loop μ-loop
-serve-found-requires c κs = (c .before .before .before .before .before .before .before .before .loop .inv .tested, (c .before .before .before .before .before .read .ensures, sym (c .before .before .before .before .is-cut-short .ensures) ∙ c .before .before .before .if1 .left))
-
-told-answer-requires : tie.Need-told-answer-requires Inv-loop μ-loop
-told-answer-requires c κs = search needs
-
-mul-answers : tie.Need-mul-answers Inv-loop μ-loop
-mul-answers c = search needs
-
-slice-write-answers : tie.Need-slice-write-answers Inv-loop μ-loop
-slice-write-answers c = search needs
-
-taken-of-requires : tie.Need-taken-of-requires Inv-loop μ-loop
-taken-of-requires c κs = search needs
+serve-found-requires c κs =
+    let whole = c .before .before .before in
+    let asked = whole .before in
+    let going = asked .before .before .before .before .loop .inv in
+    (going .tested, (asked .before .read .ensures, sym (asked .is-cut-short .ensures) ∙ whole .if1 .left))
 
 add-taken : tie.Need-add-taken Inv-loop μ-loop
-add-taken c = record { fits = omega (arith, next-within (c .before .before .before .before .before .before .before .before .before .before .before .before .before .loop .inv) (c .before .before .before .before .before .before .before .before .before .before .read .ensures) (c .before .before .before .before .before .before .before .before .before .is-cut-short .ensures) (c .before .before .before .before .before .before .before .before .if1 .left) (c .taken-of .ensures), c .before .before .before .before .before .before .before .before .before .before .before .before .before .before .before .before .before .before .before .before .before .good .1 .0 .0) }
-
-add-served : tie.Need-add-served Inv-loop μ-loop
-add-served c = search needs
+add-taken c =
+    let whole = c .before .before .before .before .before .before .before .before in
+    let asked = whole .before in
+    let at-loop = asked .before .before .before .before in
+    let start = at-loop .before .before .before .before .before .before .before .before in
+    let inside = next-within (at-loop .loop .inv) (asked .before .read .ensures) (asked .is-cut-short .ensures) (whole .if1 .left) (c .taken-of .ensures) in
+    record { fits = omega (arith, inside, start .good .1 .0 .0) }
 
 loop-less : tie.Need-loop-less Inv-loop μ-loop
 loop-less c = omega (arith, c .before .before .before .before .before .before .before .before .before .before .before .before .before .loop .inv .slots-long)
 
 loop-again : tie.Need-loop-again Inv-loop μ-loop
 unfolding answer-slot
-loop-again c = went-on (c .before .before .before .before .before .before .before .before .before .before .before .before .before .loop .inv) (c .before .before .before .before .before .before .before .before .before .before .read .ensures) (c .before .before .before .before .before .before .before .before .before .is-cut-short .ensures) (c .before .before .before .before .before .before .before .before .if1 .left) (c .taken-of .ensures) (c .before .before .before .before .before .before .before .before .before .before .before .before .loop-test .taken) (c .before .before .before .before .serve-found .ensures .0) (c .before .before .before .before .serve-found .ensures .1) (c .before .before .before .before .serve-found .kept .0) (c .before .told-answer .ensures)
+loop-again c =
+    let told = c .before in
+    let served = told .before .before .before in
+    let whole = served .before .before .before .before in
+    let asked = whole .before in
+    let slot-left = asked .before .before .before in
+    let going = slot-left .before .loop .inv in
+    went-on going (asked .before .read .ensures) (asked .is-cut-short .ensures) (whole .if1 .left) (c .taken-of .ensures) (slot-left .loop-test .taken)
+    (served .serve-found .ensures .0) (served .serve-found .ensures .1) (served .serve-found .kept .0) (told .told-answer .ensures)
 
 same-length-3 : tie.Need-same-length-3 Inv-loop μ-loop
 same-length-3 c = c .before .loop .inv .words-long
@@ -86,28 +77,6 @@ returns-2 c = stops-full (c .before .loop .inv) (c .loop-test .left)
 pub serve-run-spec : {M : Type 1} → statement M
 serve-run-spec =
     tie.close
-    (tie.spec
-    Inv-loop
-    μ-loop
-    sound-and-index-requires
-    loop-holds
-    sub-bytes
-    part-bytes-start
-    part-bytes-end
-    read-requires
-    is-cut-short-requires
-    same-length
-    same-length-2
-    returns
-    serve-found-requires
-    told-answer-requires
-    mul-answers
-    slice-write-answers
-    taken-of-requires
-    add-taken
-    add-served
-    loop-less
-    loop-again
-    same-length-3
-    same-length-4
-    returns-2)
+    (tie.spec Inv-loop μ-loop (λ c κs. search needs) loop-holds (λ c. search needs) part-bytes-start (λ c. search needs) (λ c κs. search needs)
+    (λ c κs. search needs) same-length same-length-2 returns serve-found-requires (λ c κs. search needs) (λ c. search needs) (λ c. search needs)
+    (λ c κs. search needs) add-taken (λ c. search needs) loop-less loop-again same-length-3 same-length-4 returns-2)

@@ -11,42 +11,6 @@ as-told : (taken : ℕ) {answer arm : Answer} {r : ℕ} → answer ≡ arm → r
     → r ≡ answer-number (word-number answer) (number-of answer) taken
 as-told taken e h = rw e h
 
-enum-known-answer : tie.Need-enum-known-answer
-enum-known-answer c = search needs
-
-cast-told : tie.Need-cast-told
-cast-told c = search needs
-
-told-requires : tie.Need-told-requires
-told-requires c κs = search needs
-
-enum-known-answer-2 : tie.Need-enum-known-answer-2
-enum-known-answer-2 c = search needs
-
-cast-told-2 : tie.Need-cast-told-2
-cast-told-2 c = search needs
-
-told-requires-2 : tie.Need-told-requires-2
-told-requires-2 c κs = search needs
-
-enum-known-answer-3 : tie.Need-enum-known-answer-3
-enum-known-answer-3 c = search needs
-
-cast-told-3 : tie.Need-cast-told-3
-cast-told-3 c = search needs
-
-told-requires-3 : tie.Need-told-requires-3
-told-requires-3 c κs = search needs
-
-enum-known-answer-4 : tie.Need-enum-known-answer-4
-enum-known-answer-4 c = search needs
-
-cast-told-4 : tie.Need-cast-told-4
-cast-told-4 c = search needs
-
-told-requires-4 : tie.Need-told-requires-4
-told-requires-4 c κs = search needs
-
 returns : tie.Need-returns
 unfolding word-number number-of
 returns c = as-told _ (c .before .before .answer .given .1) (c .told .ensures)
@@ -66,20 +30,6 @@ returns-4 c = as-told _ (c .before .before .answer4 .given .1) (c .told4 .ensure
 pub told-answer-spec : {M : Type 1} → statement M
 told-answer-spec =
     tie.close
-    (tie.spec
-    enum-known-answer
-    cast-told
-    told-requires
-    enum-known-answer-2
-    cast-told-2
-    told-requires-2
-    enum-known-answer-3
-    cast-told-3
-    told-requires-3
-    enum-known-answer-4
-    cast-told-4
-    told-requires-4
-    returns
-    returns-2
-    returns-3
-    returns-4)
+    (tie.spec (λ c. search needs) (λ c. search needs) (λ c κs. search needs) (λ c. search needs) (λ c. search needs) (λ c κs. search needs)
+    (λ c. search needs) (λ c. search needs) (λ c κs. search needs) (λ c. search needs) (λ c. search needs) (λ c κs. search needs) returns returns-2
+    returns-3 returns-4)

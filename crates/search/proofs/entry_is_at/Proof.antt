@@ -7,24 +7,27 @@ use Rattle.search.proofs.Tests.{name-decides, place-differs}
 use Rattle.search.proofs.entry_is_at.Statement.{statement}
 use Rattle.search.proofs.entry_is_at.Tie as tie
 
-entry-directory-requires : tie.Need-entry-directory-requires
-entry-directory-requires c κs = search needs
-
 returns : tie.Need-returns
 unfolding at
-returns c = place-differs (entry-row (c .before .before .before .args .words .now) (c .before .before .before .args .row) .place) (entry-row-fits (c .before .before .before .args .words .now) (c .before .before .before .args .row) .name) (c .before .before .before .args .directory) (c .before .before .before .args .name) (c .before .entry-directory .ensures) (c .if1 .taken)
-
-entry-name-requires : tie.Need-entry-name-requires
-entry-name-requires c κs = search needs
-
-same-blocks-requires : tie.Need-same-blocks-requires
-same-blocks-requires c κs = search needs
+returns c =
+    let after-entry-directory = c .before in
+    let start = after-entry-directory .before .before in
+    let w = start .args .words .now in
+    let row = start .args .row in
+    place-differs (entry-row w row .place) (entry-row-fits w row .name) (start .args .directory) (start .args .name)
+    (after-entry-directory .entry-directory .ensures) (c .if1 .taken)
 
 returns-2 : tie.Need-returns-2
 unfolding at
-returns-2 c = name-decides (entry-row (c .before .before .before .before .before .args .words .now) (c .before .before .before .before .before .args .row) .place) (entry-row-fits (c .before .before .before .before .before .args .words .now) (c .before .before .before .before .before .args .row) .name) (c .before .before .before .before .before .args .directory) (c .before .before .before .before .before .args .name) (c .before .before .before .before .before .pre .1 .1) (c .before .before .before .entry-directory .ensures) (c .before .before .if1 .left) (c .before .entry-name .ensures) (c .same-blocks .ensures)
+returns-2 c =
+    let after-entry-name = c .before in
+    let test-1 = after-entry-name .before in
+    let after-entry-directory = test-1 .before in
+    let start = after-entry-directory .before .before in
+    let w = start .args .words .now in
+    let row = start .args .row in
+    name-decides (entry-row w row .place) (entry-row-fits w row .name) (start .args .directory) (start .args .name) (start .pre .1 .1)
+    (after-entry-directory .entry-directory .ensures) (test-1 .if1 .left) (after-entry-name .entry-name .ensures) (c .same-blocks .ensures)
 
 pub entry-is-at-spec : {M : Type 1} → statement M
-entry-is-at-spec =
-    tie.close
-    (tie.spec entry-directory-requires returns entry-name-requires same-blocks-requires returns-2)
+entry-is-at-spec = tie.close (tie.spec (λ c κs. search needs) returns (λ c κs. search needs) (λ c κs. search needs) returns-2)

@@ -9,53 +9,59 @@ use lib.ListN.{drop}
 use Rattle.laws.proofs.Loops.{any-found, any-nowhere, any-onward}
 use Rattle.model.specs.Calls.{has-entries}
 use Rattle.model.specs.Lists.{any}
-use Rattle.model.specs.Tables.{no-entry}
-use Rattle.model.specs.Words.{unpack, words}
+use Rattle.model.specs.Tables.{no-entry, entry-rows}
+use Rattle.model.specs.Words.{unpack}
 use Rattle.rows.proofs.Parts.{entries-full}
-use Rattle.rows.specs.Stands.{entry-row}
 use Rattle.search.proofs.has_any_entry.Statement.{statement}
 use Rattle.search.proofs.has_any_entry.Tie as tie
 
 abbrev Inv-loop : tie.InvT-loop
-Inv-loop words directory i₀ i = (i ≤ 512) × (any (λ e. eqb (e .place .directory) (directory)) (drop i (unpack words .entries)) ≡ any (λ e. eqb (e .place .directory) (directory)) (unpack words .entries))
+Inv-loop words directory i₀ i =
+    (i ≤ entry-rows) × (any (λ e. eqb (e .place .directory) directory) (drop i (unpack words .entries)) ≡ any
+    (λ e. eqb (e .place .directory) directory) (unpack words .entries))
 
 abbrev μ-loop : tie.MeasureT-loop
-μ-loop words directory i₀ i = 512 - i
+μ-loop words directory i₀ i = entry-rows - i
 
 loop-holds : tie.Need-loop-holds Inv-loop μ-loop
 loop-holds c = (search needs, refl)
 
 entry-directory-requires : tie.Need-entry-directory-requires Inv-loop μ-loop
-entry-directory-requires c κs = (c .before .before .before .pre, omega arith)
+entry-directory-requires c κs =
+    let start = c .before .before .before in
+    (start .pre, omega arith)
 
 returns : tie.Need-returns Inv-loop μ-loop
 unfolding has-entries
-returns c = any-found (λ e. eqb (e .place .directory) (c .before .before .before .before .before .args .directory)) no-entry (unpack (c .before .before .before .before .before .args .words .now) .entries) (c .before .before .before .loop .i) (omega (arith, entries-full (c .before .before .before .before .before .args .words .now))) (eq-eqb (entry-row (c .before .before .before .before .before .args .words .now) (c .before .before .before .loop .i) .place .directory) (c .before .before .before .before .before .args .directory) (sym (c .before .entry-directory .ensures) ∙ c .if1 .taken)) (c .before .before .before .loop .inv .1)
-
-add-i : tie.Need-add-i Inv-loop μ-loop
-add-i c = omega arith
-
-loop-less : tie.Need-loop-less Inv-loop μ-loop
-loop-less c = omega arith
+returns c =
+    let after-entry-directory = c .before in
+    let here = after-entry-directory .before .before in
+    let start = here .before .before in
+    let w = start .args .words .now in
+    any-found (λ e. eqb (e .place .directory) (start .args .directory)) no-entry (unpack w .entries) (here .loop .i) (omega (arith, entries-full w))
+    (eq-eqb _ _ (sym (after-entry-directory .entry-directory .ensures) ∙ c .if1 .taken)) (here .loop .inv .1)
 
 loop-again : tie.Need-loop-again Inv-loop μ-loop
 unfolding has-entries
-loop-again c = (omega arith, any-onward (λ e. eqb (e .place .directory) (c .before .before .before .before .before .args .directory)) no-entry (unpack (c .before .before .before .before .before .args .words .now) .entries) (c .before .before .before .loop .i) (omega (arith, entries-full (c .before .before .before .before .before .args .words .now))) (ne-eqb (entry-row (c .before .before .before .before .before .args .words .now) (c .before .before .before .loop .i) .place .directory) (c .before .before .before .before .before .args .directory) (λ e. c .if1 .left (c .before .entry-directory .ensures ∙ e))) (c .before .before .before .loop .inv .1))
+loop-again c =
+    let after-entry-directory = c .before in
+    let here = after-entry-directory .before .before in
+    let start = here .before .before in
+    let w = start .args .words .now in (
+      omega arith,
+      any-onward (λ e. eqb (e .place .directory) (start .args .directory)) no-entry (unpack w .entries) (here .loop .i)
+          (omega (arith, entries-full w)) (ne-eqb _ _ (λ e. c .if1 .left (after-entry-directory .entry-directory .ensures ∙ e))) (here .loop .inv .1),
+    )
 
 returns-2 : tie.Need-returns-2 Inv-loop μ-loop
 unfolding has-entries
-returns-2 c = any-nowhere (λ e. eqb (e .place .directory) (c .before .before .before .args .directory)) no-entry (unpack (c .before .before .before .args .words .now) .entries) (c .before .loop .i) (omega (arith, entries-full (c .before .before .before .args .words .now))) (c .before .loop .inv .1)
+returns-2 c =
+    let here = c .before in
+    let start = here .before .before in
+    let w = start .args .words .now in
+    any-nowhere (λ e. eqb (e .place .directory) (start .args .directory)) no-entry (unpack w .entries) (here .loop .i) (omega (arith, entries-full w))
+    (here .loop .inv .1)
 
 pub has-any-entry-spec : {M : Type 1} → statement M
 has-any-entry-spec =
-    tie.close
-    (tie.spec
-    Inv-loop
-    μ-loop
-    loop-holds
-    entry-directory-requires
-    returns
-    add-i
-    loop-less
-    loop-again
-    returns-2)
+    tie.close (tie.spec Inv-loop μ-loop loop-holds entry-directory-requires returns (λ c. omega arith) (λ c. omega arith) loop-again returns-2)

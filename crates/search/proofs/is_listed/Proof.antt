@@ -4,11 +4,10 @@ use Rattle.search.proofs.Tests.{listed-by-row}
 use Rattle.search.proofs.is_listed.Statement.{statement}
 use Rattle.search.proofs.is_listed.Tie as tie
 
-find-process-requires : tie.Need-find-process-requires
-find-process-requires c κs = search needs
-
 returns : tie.Need-returns
-returns c = listed-by-row (c .before .before .args .words .now) (c .before .before .args .process) (c .find-process .ensures)
+returns c =
+    let start = c .before .before in
+    listed-by-row (start .args .words .now) (start .args .process) (c .find-process .ensures)
 
 pub is-listed-spec : {M : Type 1} → statement M
-is-listed-spec = tie.close (tie.spec find-process-requires returns)
+is-listed-spec = tie.close (tie.spec (λ c κs. search needs) returns)

@@ -1,56 +1,42 @@
 -- `shape::holds_shaped` meets its contract: row after row. Assumes nothing.
-use mathlib.Core.List.{[]}
-use mathlib.Core.Path.{_≡_, refl, sym, ap, _∙_}
-use Prim.Native.Nat.{_-_, _≤_}
+use Prim.Native.Nat.{_-_}
 use borrow.Author.Needs.{needs}
 use native.Mathlib.Omega.{arith}
-use lib.ListN.{drop}
-use Rattle.laws.proofs.Bools.{not-true, not-false}
-use Rattle.laws.proofs.Loops.{all-failed, all-onward, all-passed}
-use Rattle.laws.proofs.Pieces.{pieces-length}
-use Rattle.model.specs.Lists.{all, pieces}
+use Rattle.model.specs.Tables.{hold-rows}
+use Rattle.model.specs.Words.{hold-words, first-hold-word}
 use Rattle.shape.specs.Shaped.{hold-shaped}
-use Rattle.shape.proofs.Whole.{row-piece}
+use Rattle.shape.proofs.RowByRow.{Passed, none-passed, row-fails, row-passes, all-pass}
 use Rattle.shape.proofs.holds_shaped.Statement.{statement}
 use Rattle.shape.proofs.holds_shaped.Tie as tie
 
 abbrev Inv-loop : tie.InvT-loop
-Inv-loop words row₀ row = (row ≤ 256) × (all hold-shaped (drop row (pieces 256 6 (drop 6912 words))) ≡ all hold-shaped (pieces 256 6 (drop 6912 words)))
+Inv-loop words row₀ row = Passed hold-shaped hold-rows hold-words first-hold-word words row
 
 abbrev μ-loop : tie.MeasureT-loop
-μ-loop words row₀ row = 256 - row
+μ-loop words row₀ row = hold-rows - row
 
 loop-holds : tie.Need-loop-holds Inv-loop μ-loop
-loop-holds c = (search needs, refl)
+loop-holds c = none-passed _ _ _ _ _
 
 hold-shaped-requires : tie.Need-hold-shaped-requires Inv-loop μ-loop
 hold-shaped-requires c κs = (c .before .before .before .pre, omega arith)
 
 returns : tie.Need-returns Inv-loop μ-loop
-returns c = all-failed hold-shaped [] (pieces 256 6 (drop 6912 (c .before .before .before .before .before .args .words .now))) (c .before .before .before .loop .row) (omega (arith, pieces-length 256 6 (drop 6912 (c .before .before .before .before .before .args .words .now)))) (ap hold-shaped (row-piece 6 256 6912 (c .before .before .before .before .before .args .words .now) (c .before .before .before .loop .row) (c .before .before .loop-test .taken)) ∙ sym (c .before .hold-shaped .ensures) ∙ not-true _ (c .if1 .taken)) (c .before .before .before .loop .inv .1)
-
-add-row : tie.Need-add-row Inv-loop μ-loop
-add-row c = search needs
-
-loop-less : tie.Need-loop-less Inv-loop μ-loop
-loop-less c = search needs
+returns c =
+    let tested = c .before in
+    let loop = tested .before .before in
+    row-fails (loop .loop .inv) (tested .before .loop-test .taken) (tested .hold-shaped .ensures) (c .if1 .taken)
 
 loop-again : tie.Need-loop-again Inv-loop μ-loop
-loop-again c = (omega arith, all-onward hold-shaped [] (pieces 256 6 (drop 6912 (c .before .before .before .before .before .args .words .now))) (c .before .before .before .loop .row) (omega (arith, pieces-length 256 6 (drop 6912 (c .before .before .before .before .before .args .words .now)))) (ap hold-shaped (row-piece 6 256 6912 (c .before .before .before .before .before .args .words .now) (c .before .before .before .loop .row) (c .before .before .loop-test .taken)) ∙ sym (c .before .hold-shaped .ensures) ∙ not-false _ (c .if1 .left)) (c .before .before .before .loop .inv .1))
+loop-again c =
+    let tested = c .before in
+    let loop = tested .before .before in
+    row-passes (loop .loop .inv) (tested .before .loop-test .taken) (tested .hold-shaped .ensures) (c .if1 .left)
 
 returns-2 : tie.Need-returns-2 Inv-loop μ-loop
-returns-2 c = all-passed hold-shaped [] (pieces 256 6 (drop 6912 (c .before .before .before .args .words .now))) (c .before .loop .row) (omega (arith, pieces-length 256 6 (drop 6912 (c .before .before .before .args .words .now)))) (c .before .loop .inv .1)
+returns-2 c = all-pass (c .before .loop .inv) (c .loop-test .left)
 
 pub holds-shaped-spec : {M : Type 1} → statement M
 holds-shaped-spec =
     tie.close
-    (tie.spec
-    Inv-loop
-    μ-loop
-    loop-holds
-    hold-shaped-requires
-    returns
-    add-row
-    loop-less
-    loop-again
-    returns-2)
+    (tie.spec Inv-loop μ-loop loop-holds hold-shaped-requires returns (λ c. search needs) (λ c. search needs) loop-again returns-2)

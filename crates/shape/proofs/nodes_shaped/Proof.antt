@@ -1,56 +1,42 @@
 -- `shape::nodes_shaped` meets its contract: row after row. Assumes nothing.
-use mathlib.Core.List.{[]}
-use mathlib.Core.Path.{_≡_, refl, sym, ap, _∙_}
-use Prim.Native.Nat.{_-_, _≤_}
+use Prim.Native.Nat.{_-_}
 use borrow.Author.Needs.{needs}
 use native.Mathlib.Omega.{arith}
-use lib.ListN.{drop}
-use Rattle.laws.proofs.Bools.{not-true, not-false}
-use Rattle.laws.proofs.Loops.{all-failed, all-onward, all-passed}
-use Rattle.laws.proofs.Pieces.{pieces-length}
-use Rattle.model.specs.Lists.{all, pieces}
+use Rattle.model.specs.Tables.{node-rows}
+use Rattle.model.specs.Words.{node-words, first-node-word}
 use Rattle.shape.specs.Shaped.{node-shaped}
-use Rattle.shape.proofs.Whole.{row-piece}
+use Rattle.shape.proofs.RowByRow.{Passed, none-passed, row-fails, row-passes, all-pass}
 use Rattle.shape.proofs.nodes_shaped.Statement.{statement}
 use Rattle.shape.proofs.nodes_shaped.Tie as tie
 
 abbrev Inv-loop : tie.InvT-loop
-Inv-loop words row₀ row = (row ≤ 256) × (all node-shaped (drop row (pieces 256 17 (drop 2560 words))) ≡ all node-shaped (pieces 256 17 (drop 2560 words)))
+Inv-loop words row₀ row = Passed node-shaped node-rows node-words first-node-word words row
 
 abbrev μ-loop : tie.MeasureT-loop
-μ-loop words row₀ row = 256 - row
+μ-loop words row₀ row = node-rows - row
 
 loop-holds : tie.Need-loop-holds Inv-loop μ-loop
-loop-holds c = (search needs, refl)
+loop-holds c = none-passed _ _ _ _ _
 
 node-shaped-requires : tie.Need-node-shaped-requires Inv-loop μ-loop
 node-shaped-requires c κs = (c .before .before .before .pre, omega arith)
 
 returns : tie.Need-returns Inv-loop μ-loop
-returns c = all-failed node-shaped [] (pieces 256 17 (drop 2560 (c .before .before .before .before .before .args .words .now))) (c .before .before .before .loop .row) (omega (arith, pieces-length 256 17 (drop 2560 (c .before .before .before .before .before .args .words .now)))) (ap node-shaped (row-piece 17 256 2560 (c .before .before .before .before .before .args .words .now) (c .before .before .before .loop .row) (c .before .before .loop-test .taken)) ∙ sym (c .before .node-shaped .ensures) ∙ not-true _ (c .if1 .taken)) (c .before .before .before .loop .inv .1)
-
-add-row : tie.Need-add-row Inv-loop μ-loop
-add-row c = search needs
-
-loop-less : tie.Need-loop-less Inv-loop μ-loop
-loop-less c = search needs
+returns c =
+    let tested = c .before in
+    let loop = tested .before .before in
+    row-fails (loop .loop .inv) (tested .before .loop-test .taken) (tested .node-shaped .ensures) (c .if1 .taken)
 
 loop-again : tie.Need-loop-again Inv-loop μ-loop
-loop-again c = (omega arith, all-onward node-shaped [] (pieces 256 17 (drop 2560 (c .before .before .before .before .before .args .words .now))) (c .before .before .before .loop .row) (omega (arith, pieces-length 256 17 (drop 2560 (c .before .before .before .before .before .args .words .now)))) (ap node-shaped (row-piece 17 256 2560 (c .before .before .before .before .before .args .words .now) (c .before .before .before .loop .row) (c .before .before .loop-test .taken)) ∙ sym (c .before .node-shaped .ensures) ∙ not-false _ (c .if1 .left)) (c .before .before .before .loop .inv .1))
+loop-again c =
+    let tested = c .before in
+    let loop = tested .before .before in
+    row-passes (loop .loop .inv) (tested .before .loop-test .taken) (tested .node-shaped .ensures) (c .if1 .left)
 
 returns-2 : tie.Need-returns-2 Inv-loop μ-loop
-returns-2 c = all-passed node-shaped [] (pieces 256 17 (drop 2560 (c .before .before .before .args .words .now))) (c .before .loop .row) (omega (arith, pieces-length 256 17 (drop 2560 (c .before .before .before .args .words .now)))) (c .before .loop .inv .1)
+returns-2 c = all-pass (c .before .loop .inv) (c .loop-test .left)
 
 pub nodes-shaped-spec : {M : Type 1} → statement M
 nodes-shaped-spec =
     tie.close
-    (tie.spec
-    Inv-loop
-    μ-loop
-    loop-holds
-    node-shaped-requires
-    returns
-    add-row
-    loop-less
-    loop-again
-    returns-2)
+    (tie.spec Inv-loop μ-loop loop-holds node-shaped-requires returns (λ c. search needs) (λ c. search needs) loop-again returns-2)

@@ -7,50 +7,39 @@ use native.Mathlib.Omega.{arith}
 use lib.Dec.{eqb}
 use lib.ListN.{drop}
 use Rattle.laws.proofs.Loops.{all-failed, all-onward, all-passed}
+use Rattle.model.specs.Paths.{longest-target}
 use Rattle.shape.specs.Shaped.{zeros}
 use Rattle.shape.proofs.zeros_behind.Statement.{statement}
 use Rattle.shape.proofs.zeros_behind.Tie as tie
 
 abbrev Inv-loop : tie.InvT-loop
-Inv-loop target size i₀ i = (i ≤ 64) × (zeros (drop i target) ≡ zeros (drop size target))
+Inv-loop target size i₀ i = (i ≤ longest-target) × (zeros (drop i target) ≡ zeros (drop size target))
 
 abbrev μ-loop : tie.MeasureT-loop
-μ-loop target size i₀ i = 64 - i
+μ-loop target size i₀ i = longest-target - i
 
 loop-holds : tie.Need-loop-holds Inv-loop μ-loop
 loop-holds c = (c .pre .0, refl)
 
-element-copy-out-if1 : tie.Need-element-copy-out-if1 Inv-loop μ-loop
-element-copy-out-if1 c = search needs
-
 returns : tie.Need-returns Inv-loop μ-loop
 unfolding zeros
-returns c = all-failed (λ x. eqb x 0) 0 (c .before .before .before .before .args .target .now) (c .before .before .before .loop .i) (omega (arith, c .before .before .before .before .pre .1)) (ne-eqb _ 0 (c .if1 .taken)) (c .before .before .before .loop .inv .1)
-
-add-i : tie.Need-add-i Inv-loop μ-loop
-add-i c = search needs
-
-loop-less : tie.Need-loop-less Inv-loop μ-loop
-loop-less c = search needs
+returns c =
+    let loop = c .before .before .before in
+    all-failed (λ x. eqb x 0) 0 (loop .before .args .target .now) (loop .loop .i) (omega (arith, loop .before .pre .1)) (ne-eqb _ 0 (c .if1 .taken)) (loop .loop .inv .1)
 
 loop-again : tie.Need-loop-again Inv-loop μ-loop
 unfolding zeros
-loop-again c = (omega arith, all-onward (λ x. eqb x 0) 0 (c .before .before .before .before .args .target .now) (c .before .before .before .loop .i) (omega (arith, c .before .before .before .before .pre .1)) (eq-eqb _ 0 (c .if1 .left)) (c .before .before .before .loop .inv .1))
+loop-again c =
+    let loop = c .before .before .before in
+    (omega arith, all-onward (λ x. eqb x 0) 0 (loop .before .args .target .now) (loop .loop .i) (omega (arith, loop .before .pre .1)) (eq-eqb _ 0 (c .if1 .left)) (loop .loop .inv .1))
 
 returns-2 : tie.Need-returns-2 Inv-loop μ-loop
 unfolding zeros
-returns-2 c = all-passed (λ x. eqb x 0) 0 (c .before .before .args .target .now) (c .before .loop .i) (omega (arith, c .before .before .pre .1)) (c .before .loop .inv .1)
+returns-2 c =
+    let loop = c .before in
+    all-passed (λ x. eqb x 0) 0 (loop .before .args .target .now) (loop .loop .i) (omega (arith, loop .before .pre .1)) (loop .loop .inv .1)
 
 pub zeros-behind-spec : {M : Type 1} → statement M
 zeros-behind-spec =
     tie.close
-    (tie.spec
-    Inv-loop
-    μ-loop
-    loop-holds
-    element-copy-out-if1
-    returns
-    add-i
-    loop-less
-    loop-again
-    returns-2)
+    (tie.spec Inv-loop μ-loop loop-holds (λ c. search needs) returns (λ c. search needs) (λ c. search needs) loop-again returns-2)

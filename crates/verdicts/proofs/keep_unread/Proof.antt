@@ -16,26 +16,14 @@ Inv-loop bytes₀ from held kept i₀ bytes i = (i ≤ kept) × Puts bytes₀ 0 
 abbrev μ-loop : tie.MeasureT-loop
 μ-loop bytes₀ from held kept i₀ bytes i = kept - i
 
-sub-kept : tie.Need-sub-kept Inv-loop μ-loop
-sub-kept c = search needs
-
 loop-holds : tie.Need-loop-holds Inv-loop μ-loop
 loop-holds c = (omega arith, puts-none _ (drop (c .args .from) (now (c .args .bytes))) 0)
-
-add-bytes : tie.Need-add-bytes Inv-loop μ-loop
-add-bytes c = search needs
 
 slice-read-bytes : tie.Need-slice-read-bytes Inv-loop μ-loop
 slice-read-bytes c = omega (arith, puts-length (c .before .before .loop .inv .1))
 
 slice-write-bytes : tie.Need-slice-write-bytes Inv-loop μ-loop
 slice-write-bytes c = omega (arith, puts-length (c .before .before .loop .inv .1))
-
-add-i : tie.Need-add-i Inv-loop μ-loop
-add-i c = search needs
-
-loop-less : tie.Need-loop-less Inv-loop μ-loop
-loop-less c = search needs
 
 loop-again : tie.Need-loop-again Inv-loop μ-loop
 loop-again c = (omega arith, put-next (c .before .before .before .args .from) _ (c .before .before .loop .inv .1) (omega arith))
@@ -51,16 +39,5 @@ returns c =
 pub keep-unread-spec : {M : Type 1} → statement M
 keep-unread-spec =
     tie.close
-    (tie.spec
-    Inv-loop
-    μ-loop
-    sub-kept
-    loop-holds
-    add-bytes
-    slice-read-bytes
-    slice-write-bytes
-    add-i
-    loop-less
-    loop-again
-    same-length
-    returns)
+    (tie.spec Inv-loop μ-loop (λ c. search needs) loop-holds (λ c. search needs) slice-read-bytes slice-write-bytes (λ c. search needs)
+    (λ c. search needs) loop-again same-length returns)

@@ -14,14 +14,8 @@ nodes c = unpack (c .args .words .now) .nodes
 abbrev entered : tie.After-node-kind → tie.Start
 entered c = c .before .before .before .before .before
 
-enum-known-stop : tie.Need-enum-known-stop
-enum-known-stop c = search needs
-
 returns : tie.Need-returns
 returns c = stays (nodes (c .before .before)) (c .before .before .args .stop) (c .match .keys2)
-
-node-kind-requires : tie.Need-node-kind-requires
-node-kind-requires c κs = search needs
 
 returns-2 : tie.Need-returns-2
 returns-2 c = let k = c .before in is-missing (nodes (entered k)) (k .before .before .stop .given .1) (k .node-kind .ensures) (c .if1 .taken)
@@ -38,4 +32,4 @@ returns-4 c =
 
 pub only-directory-spec : {M : Type 1} → statement M
 only-directory-spec =
-    tie.close (tie.spec enum-known-stop returns node-kind-requires returns-2 returns-3 returns-4)
+    tie.close (tie.spec (λ c. search needs) returns (λ c κs. search needs) returns-2 returns-3 returns-4)

@@ -6,20 +6,8 @@ use Rattle.walk.proofs.Places.{no-place, place-read}
 use Rattle.walk.proofs.place_in.Statement.{statement}
 use Rattle.walk.proofs.place_in.Tie as tie
 
-blank-requires : tie.Need-blank-requires
-blank-requires c κs = search needs
-
 returns : tie.Need-returns
 returns c = let start = c .before .before .before in c .blank .ensures ∙ no-place (start .args .words .now) (start .args .found) (c .before .if1 .taken)
-
-sub-row : tie.Need-sub-row
-sub-row c = search needs
-
-entry-directory-requires : tie.Need-entry-directory-requires
-entry-directory-requires c κs = search needs
-
-entry-name-requires : tie.Need-entry-name-requires
-entry-name-requires c κs = search needs
 
 returns-2 : tie.Need-returns-2
 unfolding place-row
@@ -31,10 +19,4 @@ returns-2 c =
 pub place-in-spec : {M : Type 1} → statement M
 place-in-spec =
     tie.close
-    (tie.spec
-    blank-requires
-    returns
-    sub-row
-    entry-directory-requires
-    entry-name-requires
-    returns-2)
+    (tie.spec (λ c κs. search needs) returns (λ c. search needs) (λ c κs. search needs) (λ c κs. search needs) returns-2)

@@ -23,26 +23,17 @@ blank-requires c κs = tt
 loop-holds : tie.Need-loop-holds Inv-loop μ-loop
 loop-holds c = filling-starts _ _ _ (c .blank .ensures)
 
-mul-place-in : tie.Need-mul-place-in Inv-loop μ-loop
-mul-place-in c = search needs
-
 array-read-place-in : tie.Need-array-read-place-in Inv-loop μ-loop
 array-read-place-in c = let few = entered (c .before) .pre .1 .few in omega arith
 
 place-in-requires : tie.Need-place-in-requires Inv-loop μ-loop
 place-in-requires c κs = let pre = entered (c .before) .pre in (pre .0, each-at (pre .1 .each) (omega arith) (c .before .loop .at))
 
-mul-places : tie.Need-mul-places Inv-loop μ-loop
-mul-places c = search needs
-
 array-set-from-places : tie.Need-array-set-from-places Inv-loop μ-loop
 array-set-from-places c = let few = entered (c .before .before) .pre .1 .few in omega arith
 
 add-at : tie.Need-add-at Inv-loop μ-loop
 add-at c = let few = entered (c .before .before) .pre .1 .few in omega arith
-
-loop-less : tie.Need-loop-less Inv-loop μ-loop
-loop-less c = omega arith
 
 loop-again : tie.Need-loop-again Inv-loop μ-loop
 loop-again c =
@@ -55,17 +46,5 @@ returns c = filling-done _ _ _ (entered (c .before) .pre .1) (c .before .loop .i
 pub places-in-spec : {M : Type 1} → statement M
 places-in-spec =
     tie.close
-    (tie.spec
-    Inv-loop
-    μ-loop
-    blank-requires
-    loop-holds
-    mul-place-in
-    array-read-place-in
-    place-in-requires
-    mul-places
-    array-set-from-places
-    add-at
-    loop-less
-    loop-again
-    returns)
+    (tie.spec Inv-loop μ-loop blank-requires loop-holds (λ c. search needs) array-read-place-in place-in-requires (λ c. search needs)
+    array-set-from-places add-at (λ c. omega arith) loop-again returns)

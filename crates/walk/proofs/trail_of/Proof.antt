@@ -4,12 +4,9 @@ use Rattle.walk.specs.Trails.{onward-from}
 use Rattle.walk.proofs.trail_of.Statement.{statement}
 use Rattle.walk.proofs.trail_of.Tie as tie
 
-node-at-end-requires : tie.Need-node-at-end-requires
-node-at-end-requires c κs = search needs
-
 returns : tie.Need-returns
 unfolding onward-from
 returns c = rw (c .node-at-end .ensures)
 
 pub trail-of-spec : {M : Type 1} → statement M
-trail-of-spec = tie.close (tie.spec node-at-end-requires returns)
+trail-of-spec = tie.close (tie.spec (λ c κs. search needs) returns)

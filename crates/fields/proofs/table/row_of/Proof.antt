@@ -15,19 +15,9 @@ returns-2 : tie.Need-returns-2
 unfolding calls row-of coded-class coded-cell coded-row
 returns-2 c = sym (behind-the-table _ (c .if2 .taken))
 
-cast-result : tie.Need-cast-result
-cast-result c = search needs
-
-mul-result : tie.Need-mul-result
-mul-result c = search needs
-
-array-copy-out-result : tie.Need-array-copy-out-result
-array-copy-out-result c = search needs
-
 returns-3 : tie.Need-returns-3
 unfolding calls row-of coded-class coded-cell coded-row
-returns-3 c = in-the-table _ _ (c .before .before .if1 .left) (c .before .if2 .left)
+returns-3 c = let inside = c .before in in-the-table _ _ (inside .before .if1 .left) (inside .if2 .left)
 
 pub row-of-spec : {M : Type 1} → statement M
-row-of-spec =
-    tie.close (tie.spec returns returns-2 cast-result mul-result array-copy-out-result returns-3)
+row-of-spec = tie.close (tie.spec returns returns-2 (λ c. search needs) (λ c. search needs) returns-3)

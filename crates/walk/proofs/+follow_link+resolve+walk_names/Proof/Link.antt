@@ -6,8 +6,7 @@ use Prim.Native.Nat.{ℕ}
 use native.Mathlib.Omega.{arith}
 use lib.ListN.{length}
 use lib.Seq.{length-take-le}
-use Rattle.model.specs.Lists.{all}
-use Rattle.model.specs.Paths.{names, valid-name}
+use Rattle.model.specs.Paths.{valid-names}
 use Rattle.model.specs.Tables.{node-at}
 use Rattle.model.specs.Walk.{start}
 use Rattle.model.specs.Words.{unpack}
@@ -107,7 +106,7 @@ module _ (t : ℕ) where
         omega (arith, ap (λ (u : Trail). u .count) added),
         (
           rw added (ready-inside (words e) (e .args .trail) (e .args .found) (target e) (start-known s) (e .pre .1 .0) (read s .before .if1 .left)),
-          subst (λ (l : List ℕ). all valid-name (names l) ≡ true) (sym (r .whole)) (r .good .names-valid),
+          subst (λ (l : List ℕ). valid-names l ≡ true) (sym (r .whole)) (r .good .names-valid),
         ),
       )
 

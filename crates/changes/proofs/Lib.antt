@@ -1,0 +1,4 @@
+pub mod Determined
+pub mod Entering
+pub mod Taken
+pub mod Testing

@@ -1,0 +1,3 @@
+pub mod Behind
+pub mod Ready
+pub mod Ways
