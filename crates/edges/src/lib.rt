@@ -1,1 +1,2 @@
+#![tactic(auto)]
 // Proofs alone: the cases that document 01 marks P.

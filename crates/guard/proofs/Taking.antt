@@ -30,7 +30,7 @@ unfolding lacking
 missing_lacking have h wants e = simp (e, lacking)
 
 -- where all is there, nothing is lacking
-pub lacks_none : {wants : List Hold} (have : List Hold) → Each (Has have) wants → lacking have wants ≡ []
+pub lacks_none : (have : List Hold) {wants : List Hold} → Each (Has have) wants → lacking have wants ≡ []
 unfolding lacking
 lacks_none have none = refl
 lacks_none have (one {x = h} {xs = wants} e es) = there_not_lacking have h wants e ∙ lacks_none have es

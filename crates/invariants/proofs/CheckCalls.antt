@@ -21,7 +21,7 @@ module _ (t : Tables) (order : InOrder t) (p : ℕ) (caller : Caller t.processes
   held_order way =
       same_tree t (taking t (wanted p g) (preempted t p g)) t.processes order
       (holding_after t order p caller g arrived t.nodes (preempted t p g) (λ h m used kept d. d) (λ q met d. d) (held_ours t p g way)) order.sound.distinct_processes
-      (taken_kept t order p caller g arrived (preempted t p g)) (rows_same order.ranges.processes_fit)
+      (taken_kept t order p caller g arrived (preempted t p g)) (rows_same order.fits.processes_fit)
 
   saw_order : (c : Change) → Saw t p g c → InOrder c.tables
   saw_order c (seen way gives) = rw gives.tables order

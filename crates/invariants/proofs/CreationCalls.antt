@@ -177,7 +177,7 @@ module _ (t : Tables) (order : InOrder t) (n : ℕ) (used : free_node (node_at t
   few =
       let within = count_within (λ (e : Entry). eqb e.node n) t.entries in
       let counted = order.sound.tree.counted n used in
-      let full = order.ranges.entries_full in
+      let full = order.fits.entries_full in
       omega arith
 
   one_more_fits : NodeFits (one_more (node_at t.nodes n))

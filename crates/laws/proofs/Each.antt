@@ -35,12 +35,12 @@ module _ {A : Type 0} {P : A → Type 0} where
   pub each_take : {xs : List A} (n : ℕ) → Each P xs → Each P (take n xs)
   each_take zero ps = none
   each_take (suc n) none = none
-  each_take (suc n) (one p ps) = one p (each_take n ps)
+  each_take (suc n) (one {x = x} {xs = xs} p ps) = one p (each_take {xs = xs} n ps)
 
   pub each_drop : {xs : List A} (n : ℕ) → Each P xs → Each P (drop n xs)
   each_drop zero ps = ps
   each_drop (suc n) none = none
-  each_drop (suc n) (one p ps) = each_drop n ps
+  each_drop (suc n) (one {x = x} {xs = xs} p ps) = each_drop {xs = xs} n ps
 
   pub each_replicate : (n : ℕ) (x : A) → P x → Each P (replicate n x)
   each_replicate zero x p = none
@@ -64,7 +64,7 @@ module _ {A : Type 0} {P : A → Type 0} where
   pub each_put_all : {xs news : List A} (free : A → Bool) → Each P news → Each P xs → Each P (put_all free news xs)
   unfolding put_all
   each_put_all free none ps = ps
-  each_put_all free (one q qs) ps = each_put_all free qs (each_put free ps q)
+  each_put_all {xs = xs} free (one {x = x} q qs) ps = each_put_all {xs = put free x xs} free qs (each_put free ps q)
 
   pub each_clear : {xs : List A} {blank : A} (f : A → Bool) → Each P xs → P blank → Each P (clear f blank xs)
   unfolding clear

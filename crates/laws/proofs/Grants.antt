@@ -44,7 +44,7 @@ pub data Numbered {A : Type 0} (n : ℕ) (a : A) (P : Type 0) : ℕ → List (Ou
       Numbered n a P i (work ∷ others)
 
 -- by cases on the number of the piece of work that was granted
-pub by_number : {A P : Type 0} {n i : ℕ} {a : A} {works : List (Outcome A)} → Numbered n a P i works → (z k : ℕ) → n ≡ i + k →
+pub by_number : {A P : Type 0} {n : ℕ} {a : A} {i : ℕ} {works : List (Outcome A)} → Numbered n a P i works → (z k : ℕ) → n ≡ i + k →
     get_or works k (refused z) ≡ granted a → P
 by_number no_more z k e f = not_granted f
 by_number (first or rest) z zero e f = first (omega arith) f

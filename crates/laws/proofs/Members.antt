@@ -22,6 +22,7 @@ module _ {A : Type 0} where
   -- WHAT EVERY ROW MEETS
 
   pub each_in : {P : A → Type 0} {rows : List A} {x : A} → Each P rows → x ∈ rows → P x
+  each_in none m = in_nothing m
   each_in {P = P} (one p ps) (here e) = rw e p
   each_in (one p ps) (there m) = each_in ps m
 
@@ -40,8 +41,9 @@ module _ {A : Type 0} where
   in_all f [] h = refl
   in_all f (a ∷ rows) h = both (h a (here refl)) (in_all f rows (λ x m. h x (there m)))
 
-  pub in_any : (f : A → Bool) {rows : List A} {x : A} → x ∈ rows → f x ≡ true → any f rows ≡ true
+  pub in_any : (f : A → Bool) {x : A} {rows : List A} → x ∈ rows → f x ≡ true → any f rows ≡ true
   unfolding any
+  in_any f {rows = []} m e = in_nothing m
   in_any f {rows = a ∷ rows} (here i) e = or_left (any f rows) (rw i at e)
   in_any f {rows = a ∷ rows} (there m) e = or_right (f a) (in_any f m e)
 
@@ -120,10 +122,11 @@ module _ {A : Type 0} where
       go false p ih (there i) = later (ih i)
 
   -- a row that stays where another is put, and the new one; a row that is not cleared
-  pub in_put : (free : A → Bool) (new : A) {rows : List A} {x : A} → x ∈ rows → free x ≡ false → x ∈ put free new rows
+  pub in_put : (free : A → Bool) (new : A) {x : A} {rows : List A} → x ∈ rows → free x ≡ false → x ∈ put free new rows
   unfolding put
+  in_put free new {rows = []} m e = in_nothing m
   in_put free new {rows = a ∷ rows} (here i) e = let p : free a ≡ false = rw i at e in simp (p, put) (here i)
-  in_put free new {rows = a ∷ rows} {x = x} (there m) e = go (free a) (in_put free new m e)
+  in_put free new {x = x} {rows = a ∷ rows} (there m) e = go (free a) (in_put free new m e)
     where
       go : (b : Bool) → x ∈ put free new rows → x ∈ elim b as (λ _. List A) [ true ↦ new ∷ rows | false ↦ a ∷ put free new rows ]
       go true ih = there m
@@ -139,10 +142,11 @@ module _ {A : Type 0} where
       go true ih h = here refl
       go false ih h = there (ih h)
 
-  pub in_clear : (f : A → Bool) (blank : A) {rows : List A} {x : A} → x ∈ rows → f x ≡ false → x ∈ clear f blank rows
+  pub in_clear : (f : A → Bool) (blank : A) {x : A} {rows : List A} → x ∈ rows → f x ≡ false → x ∈ clear f blank rows
   unfolding clear
+  in_clear f blank {rows = []} m e = in_nothing m
   in_clear f blank {rows = a ∷ rows} (here i) e = let p : f a ≡ false = rw i at e in simp (p, clear) (here i)
-  in_clear f blank {rows = a ∷ rows} {x = x} (there m) e = go (f a) (in_clear f blank m e)
+  in_clear f blank {x = x} {rows = a ∷ rows} (there m) e = go (f a) (in_clear f blank m e)
     where
       go : (b : Bool) → x ∈ clear f blank rows →
           x ∈ elim b as (λ _. List A) [ true ↦ blank ∷ clear f blank rows | false ↦ a ∷ clear f blank rows ]

@@ -1,3 +1,4 @@
+#![tactic(auto)]
 // What a call answers: document 01, 'Numbers given back' and 'Forms by place in the code'.
 #[derive(Drop)]
 pub enum Answer {
