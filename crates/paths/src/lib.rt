@@ -1,3 +1,4 @@
+#![tactic(auto)]
 // Paths as bytes: which are valid, and where the next name stands. Document 01, 'Paths'.
 // The test and the split are apart, so that a change of one leaves the other alone; they share only `name_end`.
 ghost use Rattle.std.specs.Prelude.{true, ◌≡◌, ◌+◌, ◌≤◌, length, drop};
