@@ -1,3 +1,4 @@
+#![tactic(auto)]
 // The table of calls, and the tests that reading and packing make of a call's fields by it: document 01's numbers 2 and 3.
 ghost use Rattle.std.specs.Prelude.{◌≡◌, ◌||◌};
 ghost use Rattle.model.specs.Records.{not_blank, not_valid, well_formed};
@@ -10,7 +11,7 @@ use model::{BAD_FIELD, BAD_PATH};
 use table::{Row, Wanted};
 
 // The numbers in a record's head but for the paths' lengths.
-#[derive(Drop)]
+#[derive(Clone, Copy)]
 pub struct Numbers {
     pub call: u32,
     pub process: u16,

@@ -4,7 +4,7 @@ ghost use Rattle.model.specs.Records.{keeps_entries, row_of};
 ghost use Rattle.fields.specs.Rows.{coded_row, is_call};
 
 // The class of a call; `Unknown` is for a number that is no call's.
-#[derive(Drop)]
+#[derive(Clone, Copy)]
 pub enum Class {
     Unknown,
     Process,
@@ -15,7 +15,7 @@ pub enum Class {
 }
 
 // What a path's cell asks for.
-#[derive(Drop)]
+#[derive(Clone, Copy)]
 pub enum Wanted {
     Blank,
     Path,
@@ -23,7 +23,7 @@ pub enum Wanted {
 }
 
 // A row: the class, whether the argument is wanted, what path 1 and path 2 are to be.
-#[derive(Drop)]
+#[derive(Clone, Copy)]
 pub struct Row(pub Class, pub bool, pub Wanted, pub Wanted);
 
 const CALLS: usize = 13;

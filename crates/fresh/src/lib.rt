@@ -9,7 +9,7 @@ use rows::{DIRECTORY, NODES_START, TOP_UNIT, WORD_COUNT};
 // The first word of a directory to which no entry leads.
 const EMPTY_DIRECTORY: u32 = DIRECTORY as u32 * TOP_UNIT;
 
-#[derive(Drop)]
+#[derive(Clone, Copy)]
 pub enum Prepared {
     Ready,
     Refused(u8),

@@ -6,14 +6,14 @@ ghost use Rattle.goals.specs.Goals.{node_at_end, goal_of};
 use rows::{Block, ROOT};
 
 // A directory's node and a name in it.
-#[derive(Drop)]
+#[derive(Clone, Copy)]
 pub struct Place {
     pub directory: u16,
     pub name: Block,
 }
 
 // How a walk ended: refused with 7, 8 or 9; at node 1 by `/`; or at an end entry, with the node there, 0 for an absence.
-#[derive(Drop)]
+#[derive(Clone, Copy)]
 pub enum Stop {
     Refused(u8),
     Root,
@@ -21,7 +21,7 @@ pub enum Stop {
 }
 
 // A walk's end, and its elements: the places of the links that it followed, in the order met. Unused room is blank.
-#[derive(Drop)]
+#[derive(Clone, Copy)]
 pub struct Walk {
     pub stop: Stop,
     pub count: usize,

@@ -18,7 +18,7 @@ use search::{Caller, ROOT_USER, hold_is_on, user_of_process};
 
 // WHICH HOLDS a test is about: on an entry as its end, on it in either role, inside a directory, or of a process.
 // `Nothing` is for a walk that stopped at no entry.
-#[derive(Drop)]
+#[derive(Clone, Copy)]
 enum Scope {
     Nothing,
     EndAt(Place),

@@ -12,7 +12,7 @@ use rows::ENTRY_ROWS;
 use runs::serve_tested;
 
 // What a step comes to.
-#[derive(Drop)]
+#[derive(Clone, Copy)]
 pub enum Step {
     // No byte is left and none will come.
     Over,
@@ -27,7 +27,7 @@ pub enum Step {
 }
 
 // Why no further line was written.
-#[derive(Drop)]
+#[derive(Clone, Copy)]
 pub enum Stop {
     // The listing is over.
     Over,
@@ -38,7 +38,7 @@ pub enum Stop {
 }
 
 // What was done with a part: the bytes taken, the length of the lines, the place of the next one, and why there is none yet.
-#[derive(Drop)]
+#[derive(Clone, Copy)]
 pub struct Part {
     pub taken: usize,
     pub length: usize,
@@ -50,7 +50,7 @@ pub struct Part {
 const LONGEST_LINE: usize = 35;
 
 // What stands before a line: the test of the tables, whether no bytes will come behind those that are there, and the line's place.
-#[derive(Drop)]
+#[derive(Clone, Copy)]
 struct Setting {
     is_sound: bool,
     last: bool,

@@ -14,7 +14,7 @@ use records::Fields;
 use rows::ENTRY_ROWS;
 
 // Whether a link at the last name is followed, and whether an absence is refused.
-#[derive(Drop)]
+#[derive(Clone, Copy)]
 struct Manner {
     follow_last: bool,
     must_exist: bool,

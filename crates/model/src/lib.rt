@@ -1,6 +1,6 @@
 #![tactic(auto)]
 // What a call answers: document 01, 'Numbers given back' and 'Forms by place in the code'.
-#[derive(Drop)]
+#[derive(Clone, Copy)]
 pub enum Answer {
     Held(u16),
     Seen(u16),
@@ -9,7 +9,7 @@ pub enum Answer {
 }
 
 // What serving one record answers, and how many bytes of the record it took.
-#[derive(Drop)]
+#[derive(Clone, Copy)]
 pub struct Verdict {
     pub answer: Answer,
     pub taken: usize,

@@ -17,7 +17,7 @@ pub const LONGEST_PATH: usize = 255;
 pub const LONGEST_TARGET: usize = 64;
 
 // Where the next name stands, or that none is left.
-#[derive(Drop)]
+#[derive(Clone, Copy)]
 pub enum Next {
     Name { start: usize, length: usize },
     End,

@@ -23,7 +23,7 @@ use search::{free_hold_row, free_hold_rows, has_hold};
 pub const PLAN_ROOM: usize = 9;
 
 // Holds to be taken, in their order. Unused room is blank.
-#[derive(Drop)]
+#[derive(Clone, Copy)]
 pub struct Plan {
     pub count: usize,
     pub rows: [HoldRow; PLAN_ROOM],

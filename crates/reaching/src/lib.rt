@@ -35,21 +35,21 @@ pub fn walk_part(
 }
 
 // Whether a call may go on, and then who calls; or the number that it is refused with.
-#[derive(Drop)]
+#[derive(Clone, Copy)]
 pub enum Way {
     Refused(u8),
     Open(Caller),
 }
 
 // Where path 1 leads; of a refused call no walk is used.
-#[derive(Drop)]
+#[derive(Clone, Copy)]
 pub struct Reached {
     pub way: Way,
     pub walk: Walk,
 }
 
 // Where both paths lead, the new one and the old one.
-#[derive(Drop)]
+#[derive(Clone, Copy)]
 pub struct ReachedBoth {
     pub way: Way,
     pub new: Walk,

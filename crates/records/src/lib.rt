@@ -11,14 +11,14 @@ use heads::HEAD_LENGTH;
 use model::{SHORT_DESTINATION, SHORT_RECORD};
 
 // Where a path stands in a record.
-#[derive(Drop)]
+#[derive(Clone, Copy)]
 pub struct Part {
     pub start: usize,
     pub length: usize,
 }
 
 // The fields of a record.
-#[derive(Drop)]
+#[derive(Clone, Copy)]
 pub struct Fields {
     pub call: u32,
     pub process: u16,
@@ -28,14 +28,14 @@ pub struct Fields {
 }
 
 // What reading answers, with the bytes that it took.
-#[derive(Drop)]
+#[derive(Clone, Copy)]
 pub enum Reading {
     Accepted { fields: Fields, taken: usize },
     Refused { number: u8, taken: usize },
 }
 
 // What packing answers: the record's length, or the number of its refusal.
-#[derive(Drop)]
+#[derive(Clone, Copy)]
 pub enum Packing {
     Length(usize),
     Refused(u8),

@@ -1,3 +1,4 @@
+#![tactic(auto)]
 // The lent words read by row and field, and where each table, row and field stands in them; `edits`, `shape` and `fresh` take it from here.
 ghost use Rattle.std.specs.Prelude.{◌≡◌, ◌+◌, ◌*◌, ◌/◌, ◌%◌, ◌≤◌, ◌<◌, length, get_or, take, drop};
 ghost use Rattle.model.specs.Lists.{filled};
@@ -78,7 +79,7 @@ pub const END: u8 = 1;
 pub const ELEMENT: u8 = 2;
 
 // A name block: its four words.
-#[derive(Drop)]
+#[derive(Clone, Copy)]
 pub struct Block {
     pub first: u32,
     pub second: u32,
@@ -87,7 +88,7 @@ pub struct Block {
 }
 
 // An entry as it is written.
-#[derive(Drop)]
+#[derive(Clone, Copy)]
 pub struct EntryRow {
     pub directory: u16,
     pub node: u16,
@@ -95,7 +96,7 @@ pub struct EntryRow {
 }
 
 // A hold as it is written.
-#[derive(Drop)]
+#[derive(Clone, Copy)]
 pub struct HoldRow {
     pub directory: u16,
     pub process: u16,
@@ -104,7 +105,7 @@ pub struct HoldRow {
 }
 
 // A link's target: its bytes, filled up with zeros, and how many they are.
-#[derive(Drop)]
+#[derive(Clone, Copy)]
 pub struct Target {
     pub length: usize,
     pub bytes: [u8; TARGET_BYTES],

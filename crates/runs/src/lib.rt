@@ -36,7 +36,7 @@ const WORD_UNIT: u64 = 1 << 32;
 const TAKEN_UNIT: u64 = 1 << 34;
 
 // How many records were served, and how many bytes they are.
-#[derive(Drop)]
+#[derive(Clone, Copy)]
 pub struct Run {
     pub served: usize,
     pub taken: usize,

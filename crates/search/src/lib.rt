@@ -22,13 +22,13 @@ use rows::{
 pub const ROOT_USER: u16 = 0;
 
 // What the rules ask of the process that calls: its number and its user.
-#[derive(Drop)]
+#[derive(Clone, Copy)]
 pub struct Caller {
     pub process: u16,
     pub user: u16,
 }
 
-#[derive(Drop)]
+#[derive(Clone, Copy)]
 pub enum Listing {
     Unlisted,
     Listed(Caller),

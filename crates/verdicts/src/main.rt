@@ -11,7 +11,7 @@ use rows::WORD_COUNT;
 const INPUT_BYTES: usize = 12288;
 
 // What is kept from turn to turn: how many bytes at the buffer's front are unread, and the place of the next line.
-#[derive(Drop)]
+#[derive(Clone, Copy)]
 struct Standing {
     unread: usize,
     place: u64,

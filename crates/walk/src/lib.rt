@@ -29,7 +29,7 @@ const LINKS: usize = 8;
 
 // How far a walk has come: the directory that it stands in, and the links followed so far, in the order met, each by one more than the row of
 // its entry. Unused room is 0.
-#[derive(Drop)]
+#[derive(Clone, Copy)]
 struct Trail {
     directory: u16,
     count: usize,
@@ -37,7 +37,7 @@ struct Trail {
 }
 
 // A stretch of a walk: how the walk of some names ended, and the links followed up to there.
-#[derive(Drop)]
+#[derive(Clone, Copy)]
 struct Stretch {
     stop: Stop,
     count: usize,

@@ -24,7 +24,7 @@ const MOST_ELEMENTS: usize = 8;
 const PLACE_WORDS: usize = 5;
 
 // The node that a path leads to, 0 for an absence; or refused with 1, 3, 7, 8 or 9.
-#[derive(Drop)]
+#[derive(Clone, Copy)]
 pub enum Arrival {
     Node(u16),
     Refused(u8),

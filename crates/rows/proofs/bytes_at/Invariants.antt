@@ -1,0 +1,17 @@
+-- `rows::bytes_at` meets its contract: what is left to store gives the whole. Assumes nothing.
+use mathlib.Core.Path.{◌∙◌, ◌≡◌, sym}
+use Prim.Native.Nat.{◌*◌, ◌-◌, ◌≤◌}
+use native.Mathlib.Omega.{arith}
+use borrow.Author.Rules.{rules}
+use lib.ListN.{drop, length-drop, length-take, take}
+use lib.Seq.{get_or-drop, get_or-take, length-take-le, sets}
+use Rattle.model.specs.Words.{bits, bytes}
+use Rattle.rows.proofs.Bytes.{bytes_end, bytes_start, bytes_step}
+use Rattle.rows.specs.Blocks.{target_words}
+use Rattle.rows.proofs.bytes_at.Given as goal
+
+abbrev pub invariant-loop-k : goal.invariant-loop-k
+invariant-loop-k l = (l.k ≤ target_words) × (sets l.out (l.k * 4) (bytes (drop l.k (take target_words (drop l.at l.words)))) ≡ bytes (take target_words (drop l.at l.words)))
+
+abbrev pub decreases-loop-k : goal.decreases-loop-k
+decreases-loop-k l = target_words - l.k
