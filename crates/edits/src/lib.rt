@@ -1,3 +1,4 @@
+#![tactic(auto)]
 // Rows written into the lent words: each table is a part of the slice, and only that part goes to the function that writes.
 ghost use Rattle.std.specs.Prelude.{◌≡◌, ◌+◌, ◌*◌, ◌/◌, ◌≤◌, ◌<◌, length, get_or, set, replicate};
 ghost use Rattle.std.proofs.lemmas.List.Edits.{sets};

@@ -1,3 +1,4 @@
+#![tactic(auto)]
 // Lent words made fresh tables: zeros, but for node 1.
 ghost use Rattle.std.specs.Prelude.{◌≡◌, length, replicate};
 ghost use Rattle.model.specs.Serve.{made_fresh};

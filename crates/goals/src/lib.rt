@@ -1,3 +1,4 @@
+#![tactic(auto)]
 // Where a walk stopped, as the code has it: what the walk answers and the calls go on with.
 ghost use Rattle.std.specs.Prelude.{◌≡◌};
 ghost use Rattle.model.specs.Calls.{absent};

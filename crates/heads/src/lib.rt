@@ -1,3 +1,4 @@
+#![tactic(auto)]
 // The seven bytes with which a record begins, as one number of 56 bits, and the fields in it.
 ghost use Rattle.std.specs.Prelude.{◌≡◌, ◌++◌, ◌≤◌, ◌<◌, ◌%◌, length, drop};
 ghost use Rattle.model.specs.Words.{bits};

@@ -1,3 +1,4 @@
+#![tactic(auto)]
 // Name blocks tested by their words.
 ghost use Rattle.std.specs.Prelude.{◌≡◌, [], ◌∷◌, ◌<◌};
 ghost use Rattle.model.specs.Words.{bytes};

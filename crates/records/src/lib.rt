@@ -1,3 +1,4 @@
+#![tactic(auto)]
 // The record of a call, read and packed. Document 01, 'The thirteen calls' and 'Numbers given back'.
 ghost use Rattle.std.specs.Prelude.{◌≡◌, ◌++◌, ◌+◌, ◌≤◌, ◌<◌, length, drop};
 ghost use Rattle.std.proofs.Math.Seq.{paste};

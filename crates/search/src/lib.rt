@@ -1,3 +1,4 @@
+#![tactic(auto)]
 // The lent words searched: processes, entries and holds found, free rows found and counted. Each search gives what the model's own gives.
 ghost use Rattle.std.specs.Prelude.{◌≡◌, ◌<◌};
 ghost use Rattle.std.proofs.Math.Option.{some};

@@ -1,0 +1,16 @@
+-- `fresh::clear_all` meets its contract: what is left to clear gives the whole. Assumes nothing.
+use mathlib.Core.Path.{◌≡◌, refl}
+use Prim.Native.Nat.{◌+◌, ◌-◌, ◌≤◌, ℕ}
+use native.Mathlib.Omega.{arith}
+use borrow.Author.Rules.{rules}
+use lib.ListN.{drop, length, length-replicate, length-set, replicate}
+use lib.Seq.{sets}
+use Rattle.fresh.proofs.Made.{all_cleared, cleared_onward}
+use Rattle.laws.proofs.Loops.{store_done}
+use Rattle.fresh.proofs.clear_all.Given as goal
+
+abbrev pub invariant-loop-k : goal.invariant-loop-k
+invariant-loop-k l = (l.k ≤ length l.initial.words) × ((length l.words ≡ length l.initial.words) × (sets l.words (0 + l.k) (drop l.k (replicate (length l.initial.words) 0)) ≡ replicate (length l.initial.words) 0))
+
+abbrev pub decreases-loop-k : goal.decreases-loop-k
+decreases-loop-k l = length l.initial.words - l.k

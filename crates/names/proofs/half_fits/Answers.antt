@@ -1,0 +1,20 @@
+-- `names::half_fits` meets its contract: both comparisons of the eight bytes. Assumes nothing.
+use mathlib.Core.Path.{sym, ap, ◌∙◌}
+use borrow.Author.Rules.{rules}
+use borrow.Author.Tests.{eq-eqb, ne_eqb}
+use lib.Dec.{eqb}
+use native.Mathlib.Omega.{arith}
+use Rattle.names.specs.Fits.{top_bits}
+use Rattle.names.proofs.Eights.{eight_fit}
+use Rattle.laws.proofs.Bools.{stopped, passed}
+use Rattle.names.proofs.half_fits.Goals as goal
+
+pub returns-then-differing-tops_of : goal.returns-then-differing-tops_of
+returns-then-differing-tops_of c =
+    stopped _ (ne_eqb _ _ (λ e. c.if-differing-tops_of.true (c.differing.ensures ∙ e ∙ sym c.tops_of.ensures)))
+    ∙ eight_fit c.args.first c.args.second c.args.count (omega arith) (omega arith)
+
+pub returns : goal.returns
+returns c =
+    passed (eq-eqb _ _ (sym c.differing.ensures ∙ c.if-differing-tops_of.false ∙ c.tops_of.ensures)) (ap (λ x. eqb x top_bits) c.differing-2.ensures)
+    ∙ eight_fit c.args.first c.args.second c.args.count (omega arith) (omega arith)

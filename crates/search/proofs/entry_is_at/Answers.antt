@@ -1,0 +1,23 @@
+-- `search::entry_is_at` meets its contract: the directory is compared, then the name. Assumes nothing.
+use borrow.Author.Rules.{rules}
+use Rattle.model.specs.Tables.{at}
+use Rattle.rows.proofs.Fields.{entry_row_fits}
+use Rattle.rows.specs.Stands.{entry_row}
+use Rattle.search.proofs.Tests.{name_decides, place_differs}
+use Rattle.search.proofs.entry_is_at.Goals as goal
+
+pub returns-then-entry_directory-directory : goal.returns-then-entry_directory-directory
+unfolding at
+returns-then-entry_directory-directory c =
+    let w = c.args.words.now in
+    let row = c.args.row in
+    place_differs (entry_row w row).place (entry_row_fits w row).name c.args.directory c.args.name
+    c.entry_directory.ensures c.if-entry_directory-directory.true
+
+pub returns : goal.returns
+unfolding at
+returns c =
+    let w = c.args.words.now in
+    let row = c.args.row in
+    name_decides (entry_row w row).place (entry_row_fits w row).name c.args.directory c.args.name c.requires.1.1
+    c.entry_directory.ensures c.if-entry_directory-directory.false c.entry_name.ensures c.same_blocks.ensures

@@ -1,0 +1,19 @@
+-- `search::free_process_row` meets its contract: rows are passed while they are used. Assumes nothing.
+use mathlib.Core.Path.{◌∙◌, ◌≡◌, refl, sym}
+use Prim.Native.Nat.{◌-◌, ◌≤◌}
+use native.Mathlib.Omega.{arith}
+use borrow.Author.Rules.{rules}
+use borrow.Author.Tests.{eq-eqb, ne_eqb}
+use lib.ListN.{drop}
+use Rattle.laws.proofs.Loops.{first_found, first_nowhere, first_onward}
+use Rattle.model.specs.Lists.{first}
+use Rattle.model.specs.Tables.{free_process, no_process, process_rows}
+use Rattle.model.specs.Words.{unpack}
+use Rattle.rows.proofs.Parts.{processes_full}
+use Rattle.search.proofs.free_process_row.Given as goal
+
+abbrev pub invariant-loop-row : goal.invariant-loop-row
+invariant-loop-row l = (l.row ≤ process_rows) × (first free_process l.row (drop l.row (unpack l.words).processes) ≡ first free_process 0 (unpack l.words).processes)
+
+abbrev pub decreases-loop-row : goal.decreases-loop-row
+decreases-loop-row l = process_rows - l.row
