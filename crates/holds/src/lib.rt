@@ -1,3 +1,4 @@
+#![tactic(auto)]
 // Holds over the lent words: who is in the way, and what is dropped. Each is what the model's definition of that name gives.
 ghost use Rattle.std.specs.Prelude.{◌&&◌, ◌||◌, ◌≡◌, ◌<◌, eqb};
 ghost use Rattle.model.specs.Lists.{any};

@@ -1,3 +1,4 @@
+#![tactic(auto)]
 // The processes found by number without a scan: chains of rows by bucket in two arrays that the caller lends. The index is stale after a
 // write to the processes.
 ghost use Rattle.std.specs.Prelude.{◌≡◌, true, ◌<◌, ◌%◌, replicate};

@@ -1,3 +1,4 @@
+#![tactic(auto)]
 // What each row of the lent words has to meet by itself, row after row.
 ghost use Rattle.std.specs.Prelude.{[], ◌∷◌, ◌≡◌, ◌+◌, ◌*◌, ◌≤◌, ◌<◌, eqb, length, take, drop};
 ghost use Rattle.model.specs.Lists.{all};

@@ -1,3 +1,4 @@
+#![tactic(auto)]
 // The rules of sound tables that take more than one row: entries and the nodes that they lead to.
 ghost use Rattle.std.specs.Prelude.{◌&&◌, ◌≡◌, ◌+◌, ◌<◌, replicate};
 ghost use Rattle.model.specs.Tables.{entry_rows, node_rows};

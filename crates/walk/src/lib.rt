@@ -1,3 +1,4 @@
+#![tactic(auto)]
 // A path walked over the lent tables: names looked up one after the other, links followed on the way. Document 01, 'Walking a path'.
 // Walking names calls following a link, which walks the names of its target. Names go by a loop, in which the bytes left fall; a call comes
 // with each link alone, and the links left fall, so that the stack is that of nine walks of names at the most. On the way a link is known by

@@ -27,7 +27,14 @@ returns-then-last_at-ne0 c = (
 pub loop-row-preserved : goal.loop-row-preserved
 loop-row-preserved c =
     let directory = c.entry_directory-directory.ensures in
-    elim c.if-directory-ne0.branch [ then-directory-ne0+else-last_at-ne0 w ↦ ? | else-directory-ne0 w ↦ ? ]
+    elim c.if-directory-ne0.branch [
+      | then-directory-ne0+else-last_at-ne0 w ↦
+          let bucket = w.bucket_of-bucket.ensures in
+          rw (w.heads-is, w.next-is) (building_more c.args.words.now c.loop-row.invariant c.loop-row-test.true directory w.if-directory-ne0.true
+          w.entry_name-name.ensures w.last_at.ensures w.if-last_at-ne0.false bucket.0 bucket.1)
+      | else-directory-ne0 w ↦
+          rw (w.heads-is, w.next-is) (building_past c.args.words.now c.loop-row.invariant c.loop-row-test.true directory w.if-directory-ne0.false)
+    ]
 
 pub returns : goal.returns
 returns c = building_ends c.args.words.now c.requires.0 c.loop-row.invariant c.loop-row-test.false

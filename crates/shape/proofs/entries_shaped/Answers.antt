@@ -1,0 +1,27 @@
+-- `shape::entries_shaped` meets its contract: row after row. Assumes nothing.
+use Prim.Native.Nat.{◌-◌}
+use borrow.Author.Rules.{rules}
+use native.Mathlib.Omega.{arith}
+use Rattle.model.specs.Tables.{entry_rows}
+use Rattle.model.specs.Words.{entry_words}
+use Rattle.shape.specs.Shaped.{entry_shaped}
+use Rattle.shape.proofs.RowByRow.{Passed, none_passed, row_fails, row_passes, all_pass}
+use Rattle.shape.proofs.RowShapes.{entry_at}
+use mathlib.Core.Path.{ap}
+use mathlib.Core.Bool.{not}
+use Rattle.shape.proofs.entries_shaped.Goals as goal
+
+pub loop-row-init : goal.loop-row-init
+loop-row-init c = none_passed _ _ _ _ _
+
+pub entry_shaped-requires : goal.entry_shaped-requires
+entry_shaped-requires c = (c.requires, omega arith)
+
+pub returns-then-not-entry_shaped : goal.returns-then-not-entry_shaped
+returns-then-not-entry_shaped c = row_fails c.loop-row.invariant c.loop-row-test.true (entry_at _ c.loop-row.row c.entry_shaped.ensures) (ap not c.if-not-entry_shaped.true)
+
+pub loop-row-preserved : goal.loop-row-preserved
+loop-row-preserved c = row_passes c.loop-row.invariant c.loop-row-test.true (entry_at _ c.loop-row.row c.entry_shaped.ensures) (ap not c.if-not-entry_shaped.false)
+
+pub returns : goal.returns
+returns c = all_pass c.loop-row.invariant c.loop-row-test.false

@@ -1,0 +1,37 @@
+-- `tree_rules::tally` meets its contract: each entry is counted for the node that it leads to. Assumes nothing.
+use mathlib.Core.Logic.{⊎_elim}
+use mathlib.Core.Path.{◌≡◌, ◌∙◌}
+use Prim.Native.Nat.{ℕ, ◌-◌, ◌≤◌, ◌<◌}
+use borrow.Author.Rules.{rules}
+use native.Mathlib.Omega.{arith}
+use Rattle.model.specs.Tables.{entry_rows}
+use Rattle.tree_rules.specs.Tallied.{counters}
+use Rattle.tree_rules.proofs.Nodes.{Counting, counting_starts, counting_past, counting_more, counting_ends}
+use Rattle.tree_rules.proofs.tally.Goals as goal
+use Rattle.tree_rules.proofs.tally.Goals.{then-node-ne0+then-node-lt-COUNTS, then-node-ne0+else-node-lt-COUNTS, else-node-ne0}
+
+above : {v n : ℕ} → v ≡ n → n < counters → counters ≤ v → ⊥
+above e h l = omega arith
+
+nothing : {v n : ℕ} → v ≡ n → 0 < n → v ≡ 0 → ⊥
+nothing e h z = omega arith
+
+pub loop-row-init : goal.loop-row-init
+loop-row-init c = counting_starts _ _ c.requires.1
+
+pub one_more-requires : goal.one_more-requires
+one_more-requires c = omega (arith, c.loop-row.invariant.low c.wide-node.result c.if-node-lt-COUNTS.true)
+
+pub loop-row-preserved : goal.loop-row-preserved
+loop-row-preserved c =
+    let there = c.loop-row-test.true in
+    let kept = c.loop-row.invariant in
+    let node = c.wide-node.ensures ∙ c.entry_node.ensures in
+    elim c.if-node-ne0.branch [
+      | then-node-ne0+then-node-lt-COUNTS w ↦ rw (w.counts-is, w.one_more.ensures) (counting_more _ _ kept there node w.if-node-lt-COUNTS.true)
+      | then-node-ne0+else-node-lt-COUNTS w ↦ rw w.counts-is (counting_past _ _ kept there node (λ n u h e. above e h w.if-node-lt-COUNTS.false))
+      | else-node-ne0 w ↦ rw w.counts-is (counting_past _ _ kept there node (λ n u h e. nothing e u w.if-node-ne0.false))
+    ]
+
+pub returns : goal.returns
+returns c = counting_ends _ _ c.loop-row.invariant c.loop-row-test.false
