@@ -87,11 +87,11 @@ module _ (row : model_tables.Place → ℕ) (t : Trail) where
 -- GOING ON
 
 -- a refusal, or node 1, as the code tells the variants apart
-pub stays : (nodes : List Node) (s : Stop) → OneOf (0 ∷ 1 ∷ []) (tag_of the_type s) → s ≡ only_directory nodes s
+pub stays : (nodes : List Node) (s : Stop) → ((q : Place) (n : ℕ) → s ≡ Entry q n → ⊥) → s ≡ only_directory nodes s
 unfolding only_directory
 stays nodes (Refused n) e = refl
 stays nodes Root e = refl
-stays nodes (Entry q n) e = absurd (miss (0 ∷ 1 ∷ []) 2 tt e)
+stays nodes (Entry q n) e = absurd (e q n refl)
 
 module _ (nodes : List Node) {s : Stop} {q : Place} {n kind : ℕ} (e : s ≡ Entry q n) (f : kind ≡ (node_at nodes n).kind) where
   sorted : only_directory nodes s ≡ by_kind kind (Entry q n)

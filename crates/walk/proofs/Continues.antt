@@ -78,9 +78,9 @@ is_refused Root = false
 is_refused (StoppedAt q n) = false
 
 -- as the code tells the variants apart
-pub not_refused : (s : Stop) → OneOf (1 ∷ 2 ∷ []) (tag_of the_type s) → is_refused s ≡ false
+pub not_refused : (s : Stop) → ((n : ℕ) → s ≡ Refused n → ⊥) → is_refused s ≡ false
 unfolding is_refused
-not_refused (Refused n) e = absurd (miss (1 ∷ 2 ∷ []) 0 tt e)
+not_refused (Refused n) e = absurd (e n refl)
 not_refused Root e = refl
 not_refused (StoppedAt q n) e = refl
 

@@ -6,17 +6,17 @@ use Rattle.walk.proofs.walk.Goals as goal
 pub walk_names-whole-requires : goal.walk_names-whole-requires
 unfolding no_links
 walk_names-whole-requires c =
-    let sound = c.requires.1.0 in
-    (whole_ready c.args.words.now sound c.requires.0, path_names_valid c.args.path.now c.requires.1.1)
+    record {
+      ready = whole_ready c.args.words.now c.requires.sound c.requires.indexed;
+      valid = path_names_valid c.args.path.now c.requires.valid;
+    }
 
 pub places_in-elements-requires : goal.places_in-elements-requires
 unfolding no_links
 places_in-elements-requires c =
-    let sound = c.requires.1.0 in
-    (c.requires.0.stands, whole_kept c.args.words.now sound c.args.follow_last c.args.path.now c.walk_names-whole.ensures)
+    (c.requires.indexed.stands, whole_kept c.args.words.now c.requires.sound c.args.follow_last c.args.path.now c.walk_names-whole.ensures)
 
 pub returns : goal.returns
 unfolding no_links told
 returns c =
-    let sound = c.requires.1.0 in
-    rw c.places_in-elements.ensures (whole_told c.args.words.now sound c.args.follow_last c.args.path.now c.walk_names-whole.ensures)
+    rw c.places_in-elements.ensures (whole_told c.args.words.now c.requires.sound c.args.follow_last c.args.path.now c.walk_names-whole.ensures)

@@ -1,0 +1,202 @@
+-- Walking names, resolving one and following a link: each returns the model's walk of what is left. Assumes nothing.
+use mathlib.Core.Path.{◌≡◌, refl, sym, ap, subst, ◌∙◌}
+use mathlib.Core.Bool.{Bool, true, false}
+use mathlib.Core.Logic.{inl, inr, ◌⊎◌, ◌≢◌}
+use mathlib.Core.List.{List}
+use Prim.Native.Nat.{ℕ, ◌-◌, ◌+◌, ◌≤◌, ◌<◌}
+use native.Mathlib.Omega.{arith}
+use borrow.Author.Tests.{eq-eqb, ne_eqb}
+use lib.ListN.{get_or, length, take}
+use lib.Seq.{length-take-le}
+use Rattle.model.specs.Lists.{filled}
+use Rattle.model.specs.Paths.{longest_target, valid_names}
+use Rattle.model.specs.Sound.{sound_rows}
+use Rattle.model.specs.Tables.{a_link, node_at, lookup}
+use Rattle.model.specs.Walk.{start}
+use Rattle.model.specs.Words.{unpack}
+use Rattle.rows.specs.Blocks.{place_of}
+use Rattle.rows.specs.Stands.{node_row}
+use Rattle.rows.specs.declared.Target.{Target}
+use Rattle.paths.proofs.Splits.{next_ends}
+use Rattle.walk.specs.declared.Trail.{Trail}
+use Rattle.walk.proofs.Continues.{is_refused, not_refused}
+use Rattle.walk.proofs.Found.{Walkable, sound_walkable}
+use Rattle.walk.proofs.Steps.{TargetRead, link_in_range, target_read, started, no_link_left, ready_inside, follows_target}
+use Rattle.walk.proofs.Steps.{in_no_directory, node_met, resolves_link, stops_at_entry}
+use Rattle.walk.proofs.Steps.{NextName, next_name_met, block_names, Met, stops_by_slash, last_resolved, stopped_on_the_way, walks_on}
+use Rattle.walk.proofs.+follow_link_resolve_walk_names.Goals as goal
+use Rattle.walk.proofs.+follow_link_resolve_walk_names.Goals.{resolve-then-follow+else-node_kind-eq-LINK, resolve-else-follow}
+
+-- FOLLOWING A LINK
+
+-- a link's target as it is read out of the node's row
+known : (w : List ℕ) → sound_rows (unpack w) ≡ true → (node : ℕ) → (node_at (unpack w).nodes node).kind ≡ a_link → {found : Target} →
+    found ≡ record { length = length (node_row w (node - 1)).target; bytes = filled longest_target (node_row w (node - 1)).target } →
+    TargetRead w node found.length found.bytes
+known w sound node link e = target_read w (sound_walkable w sound) node link _ _ (ap (λ (x : Target). x.length) e) (ap (λ (x : Target). x.bytes) e)
+
+-- the bytes that are lent to the walk are there
+short : {w : List ℕ} {node n : ℕ} {bytes : List ℕ} → TargetRead w node n bytes → n ≤ length bytes
+short r = omega (arith, r.room, r.count, r.good.short)
+
+pub follow_link-returns-then-trail-ge-LINKS : goal.follow_link-returns-then-trail-ge-LINKS
+follow_link-returns-then-trail-ge-LINKS t c =
+    c.turn_away.ensures
+    ∙ no_link_left c.args.words.now c.args.trail c.args.found (node_at (unpack c.args.words.now).nodes c.args.node).target c.if-trail-ge-LINKS.true
+
+pub follow_link-overflow_sub-node : goal.follow_link-overflow_sub-node
+follow_link-overflow_sub-node t c =
+    let range = link_in_range c.args.words.now (sound_walkable c.args.words.now c.requires.ready.sound) c.args.node c.requires.link in
+    let z = range.0 in
+    omega arith
+
+pub follow_link-target_in-target-requires : goal.follow_link-target_in-target-requires
+follow_link-target_in-target-requires t c =
+    let range = link_in_range c.args.words.now (sound_walkable c.args.words.now c.requires.ready.sound) c.args.node c.requires.link in
+    let z = range.0 in
+    let h = range.1 in
+    (c.requires.ready.indexed.stands, omega arith)
+
+pub follow_link-slice_bounds-bytes-end : goal.follow_link-slice_bounds-bytes-end
+follow_link-slice_bounds-bytes-end t c =
+    let r = known c.args.words.now c.requires.ready.sound c.args.node c.requires.link c.target_in-target.ensures in
+    omega (arith, short r, r.room)
+
+pub follow_link-slice_bounds-walk_names-end : goal.follow_link-slice_bounds-walk_names-end
+follow_link-slice_bounds-walk_names-end t c =
+    let r = known c.args.words.now c.requires.ready.sound c.args.node c.requires.link c.target_in-target.ensures in
+    sym (length-take-le _ _ (short r))
+
+pub follow_link-walk_names-requires : goal.follow_link-walk_names-requires
+follow_link-walk_names-requires t c =
+    let w = c.args.words.now in
+    let target = (node_at (unpack w).nodes c.args.node).target in
+    let r = known w c.requires.ready.sound c.args.node c.requires.link c.target_in-target.ensures in
+    let from = started c.args.trail.directory target _ _ r.first c.start_of-start.ensures in
+    let less = c.decreases in
+    let added = c.through_link.ensures in (
+      omega (arith, ap (λ (u : Trail). u.count) added),
+      (
+        rw added (ready_inside w c.args.trail c.args.found target from c.requires.ready c.if-trail-ge-LINKS.false),
+        subst (λ (l : List ℕ). valid_names l ≡ true) (sym r.whole) r.good.names_valid,
+      ),
+    )
+
+pub follow_link-returns : goal.follow_link-returns
+follow_link-returns t c =
+    let w = c.args.words.now in
+    let target = (node_at (unpack w).nodes c.args.node).target in
+    let r = known w c.requires.ready.sound c.args.node c.requires.link c.target_in-target.ensures in
+    let from = started c.args.trail.directory target _ _ r.first c.start_of-start.ensures in
+    follows_target w c.args.trail c.args.found target c.if-trail-ge-LINKS.false c.through_link.ensures from r.whole c.walk_names.ensures
+
+-- RESOLVING A NAME
+
+pub resolve-find_entry-found-requires : goal.resolve-find_entry-found-requires
+resolve-find_entry-found-requires t c =
+    let ready = c.requires.ready in
+    (ready.indexed, (c.requires.named, in_no_directory ready))
+
+pub resolve-node_found-node-requires : goal.resolve-node_found-node-requires
+resolve-node_found-node-requires t c = (c.requires.ready.indexed.stands, c.find_entry-found.ensures.1)
+
+pub resolve-follow_link-requires : goal.resolve-follow_link-requires
+resolve-follow_link-requires t c =
+    let less = c.decreases in
+    (omega arith, (c.requires.ready, (c.find_entry-found.ensures.1, sym c.node_kind.ensures ∙ c.if-node_kind-eq-LINK.true)))
+
+pub resolve-returns-then-node_kind-eq-LINK : goal.resolve-returns-then-node_kind-eq-LINK
+resolve-returns-then-node_kind-eq-LINK t c =
+    let w = c.args.words.now in
+    let met = node_met c.requires.ready c.args.name c.find_entry-found.ensures.0 c.node_found-node.ensures in
+    resolves_link w (sound_walkable w c.requires.ready.sound) c.args.trail c.args.name c.node_found-node.result met c.args.follow
+    c.find_entry-found.ensures.0 c.if-follow.true (sym c.node_kind.ensures ∙ c.if-node_kind-eq-LINK.true) c.follow_link.ensures
+
+pub resolve-returns : goal.resolve-returns
+resolve-returns t c =
+    let w = c.args.words.now in
+    let met = node_met c.requires.ready c.args.name c.find_entry-found.ensures.0 c.node_found-node.ensures in
+    let stays : ((node_at (unpack w).nodes c.node_found-node.result).kind ≢ a_link) ⊎ (c.args.follow ≡ false) =
+    elim c.if-follow.branch [
+      | resolve-then-follow+else-node_kind-eq-LINK v ↦ inl (λ k. v.if-node_kind-eq-LINK.false (v.node_kind.ensures ∙ k))
+      | resolve-else-follow v ↦ inr v.if-follow.false
+    ] in
+    c.stop_at.ensures
+    ∙ stops_at_entry w (sound_walkable w c.requires.ready.sound) c.args.trail c.args.name c.node_found-node.result met c.args.follow c.requires.named
+    stays
+
+-- WALKING NAMES
+
+pub walk_names-loop-start-init : goal.walk_names-loop-start-init
+walk_names-loop-start-init t c = record { ready = c.requires.ready; valid = c.requires.valid; more = omega arith; same = refl }
+
+pub walk_names-returns-in_default : goal.walk_names-returns-in_default
+walk_names-returns-in_default t c =
+    c.stop_at.ensures
+    ∙ stops_by_slash c.loop-start.invariant (next_ends c.args.path.now c.loop-start.at (sym c.next_name.ensures ∙ c.in_default.is))
+
+pub walk_names-block_from-name-requires : goal.walk_names-block_from-name-requires
+walk_names-block_from-name-requires t c =
+    let n = next_name_met c.args.path.now _ _ _ (λ i. (c.type_inv.path i).fits) c.loop-start.invariant.valid (sym c.next_name.ensures ∙ c.in-Name.is) in
+    (n.inside, n.short)
+
+pub walk_names-overflow_add-end : goal.walk_names-overflow_add-end
+walk_names-overflow_add-end t c =
+    let n = next_name_met c.args.path.now _ _ _ (λ i. (c.type_inv.path i).fits) c.loop-start.invariant.valid (sym c.next_name.ensures ∙ c.in-Name.is) in
+    omega (arith, n.inside)
+
+pub walk_names-resolve-met-requires : goal.walk_names-resolve-met-requires
+walk_names-resolve-met-requires t c =
+    let n = next_name_met c.args.path.now _ _ _ (λ i. (c.type_inv.path i).fits) c.loop-start.invariant.valid (sym c.next_name.ensures ∙ c.in-Name.is) in
+    let less = c.decreases in
+    let more = c.loop-start.invariant.more in
+    (omega arith, (c.loop-start.invariant.ready, block_names c.args.path.now _ _ _ n _ c.block_from-name.ensures))
+
+pub walk_names-returns-then-is_last : goal.walk_names-returns-then-is_last
+walk_names-returns-then-is_last t c =
+    let n = next_name_met c.args.path.now _ _ _ (λ i. (c.type_inv.path i).fits) c.loop-start.invariant.valid (sym c.next_name.ensures ∙ c.in-Name.is) in
+    let met : Met c.args.words.now c.args.path.now c.args.follow_last c.loop-start.at c.loop-start.trail c.in-Name.start c.in-Name.length c.resolve-met.result =
+    record {
+      name = n;
+      block = c.block_from-name.result;
+      made = c.block_from-name.ensures;
+      follow = c.is_followed-follow.result;
+      asked = c.is_followed-follow.ensures;
+      is = c.resolve-met.ensures;
+    } in
+    last_resolved c.loop-start.invariant met (eq-eqb _ _ c.if-is_last.true)
+
+pub walk_names-returns-in-Refused : goal.walk_names-returns-in-Refused
+walk_names-returns-in-Refused t c =
+    let n = next_name_met c.args.path.now _ _ _ (λ i. (c.type_inv.path i).fits) c.loop-start.invariant.valid (sym c.next_name.ensures ∙ c.in-Name.is) in
+    let met : Met c.args.words.now c.args.path.now c.args.follow_last c.loop-start.at c.loop-start.trail c.in-Name.start c.in-Name.length c.resolve-met.result =
+    record {
+      name = n;
+      block = c.block_from-name.result;
+      made = c.block_from-name.ensures;
+      follow = c.is_followed-follow.result;
+      asked = c.is_followed-follow.ensures;
+      is = c.resolve-met.ensures;
+    } in
+    c.turn_away.ensures
+    ∙ stopped_on_the_way c.loop-start.invariant met (ne_eqb _ _ c.if-is_last.false) (sym c.only_directory.ensures ∙ c.in-Refused.is)
+
+pub walk_names-loop-start-smaller : goal.walk_names-loop-start-smaller
+walk_names-loop-start-smaller t c =
+    let n = next_name_met c.args.path.now _ _ _ (λ i. (c.type_inv.path i).fits) c.loop-start.invariant.valid (sym c.next_name.ensures ∙ c.in-Name.is) in
+    omega (arith, n.onward, n.inside)
+
+pub walk_names-loop-start-preserved : goal.walk_names-loop-start-preserved
+walk_names-loop-start-preserved t c =
+    let n = next_name_met c.args.path.now _ _ _ (λ i. (c.type_inv.path i).fits) c.loop-start.invariant.valid (sym c.next_name.ensures ∙ c.in-Name.is) in
+    let met : Met c.args.words.now c.args.path.now c.args.follow_last c.loop-start.at c.loop-start.trail c.in-Name.start c.in-Name.length c.resolve-met.result =
+    record {
+      name = n;
+      block = c.block_from-name.result;
+      made = c.block_from-name.ensures;
+      follow = c.is_followed-follow.result;
+      asked = c.is_followed-follow.ensures;
+      is = c.resolve-met.ensures;
+    } in
+    let going = ap is_refused (sym c.only_directory.ensures) ∙ not_refused _ c.in_default-only_directory.not-Refused in
+    rw c.trail_of-trail.ensures (walks_on c.loop-start.invariant met (ne_eqb _ _ c.if-is_last.false) going)
