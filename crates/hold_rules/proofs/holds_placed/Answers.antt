@@ -13,10 +13,14 @@ pub loop-row-init : goal.loop-row-init
 loop-row-init c = placed_none c.args.words.now
 
 pub hold_placed-requires : goal.hold_placed-requires
-hold_placed-requires c = (c.requires.0, (let it : c.loop-row.row < hold_rows = omega (arith, used_inside c.args.words.now c.requires.1) in it))
+hold_placed-requires c =
+    let inside : c.loop-row.row < hold_rows = omega (arith, used_inside c.args.words.now c.requires.1) in
+    (c.requires.0, inside)
 
 pub returns-then-not-hold_placed : goal.returns-then-not-hold_placed
-returns-then-not-hold_placed c = not_placed c.args.words.now c.loop-row.row ((let it : c.loop-row.row < hold_rows = omega (arith, used_inside c.args.words.now c.requires.1) in it)) (sym c.hold_placed.ensures ∙ c.if-not-hold_placed.true)
+returns-then-not-hold_placed c =
+    let inside : c.loop-row.row < hold_rows = omega (arith, used_inside c.args.words.now c.requires.1) in
+    not_placed c.args.words.now c.loop-row.row inside (sym c.hold_placed.ensures ∙ c.if-not-hold_placed.true)
 
 pub loop-row-preserved : goal.loop-row-preserved
 loop-row-preserved c = placed_more c.args.words.now c.loop-row.invariant (sym c.hold_placed.ensures ∙ c.if-not-hold_placed.false)
