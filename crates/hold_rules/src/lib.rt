@@ -1,3 +1,4 @@
+#![tactic(auto)]
 // The rules of sound tables on holds: where each stands and whose it is, no hold twice, and end holds on one place of one user. Pairs are
 // found by chains of rows, and the rows behind the last hold are left out.
 ghost use Rattle.std.specs.Prelude.{◌&&◌, ◌≡◌, ◌<◌};

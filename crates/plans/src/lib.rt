@@ -1,3 +1,4 @@
+#![tactic(auto)]
 // Holds taken over the lent words: planned before anything is written, and fork's copies. Each is what the model's definition of that name gives.
 ghost use Rattle.std.specs.Prelude.{◌≢◌, ◌≡◌, ◌≤◌, ◌<◌};
 ghost use Rattle.model.specs.Lists.{any, count, put};

@@ -1,3 +1,4 @@
+#![tactic(auto)]
 // Whether lent words are sound tables. Document 01, 'The lent tables'.
 ghost use Rattle.std.specs.Prelude.{true, ◌&&◌, ◌≡◌, replicate};
 ghost use Rattle.model.specs.Tables.{entry_rows};

@@ -1,11 +1,11 @@
 -- `process_index::index_processes` meets its contract: each used row is looked for among the rows before it, and then chained. Assumes nothing.
 use mathlib.Core.Bool.{false≢true}
-use mathlib.Core.Logic.{⊎_elim}
 use Prim.Native.Nat.{◌-◌}
 use borrow.Author.Rules.{rules}
 use Rattle.model.specs.Tables.{process_rows}
 use Rattle.process_index.proofs.Processes.{number_descent, Building, building_starts, building_past, building_more, building_twice, building_ends}
 use Rattle.process_index.proofs.index_processes.Goals as goal
+use Rattle.process_index.proofs.index_processes.Goals.{then-number-ne0+else-last_of-ne0, else-number-ne0}
 
 pub loop-row-init : goal.loop-row-init
 loop-row-init c = building_starts c.args.words.now c.requires.1.0 c.requires.1.1
@@ -25,11 +25,14 @@ returns-then-last_of-ne0 c = (
 pub loop-row-preserved : goal.loop-row-preserved
 loop-row-preserved c =
     let number = c.process_number-number.ensures in
-    ⊎_elim
-    (λ w. rw (w.6, w.7) (building_more c.args.words.now c.loop-row.invariant c.loop-row-test.true number w.0.taken
-    w.4.ensures w.5.left w.1.ensures.0 w.1.ensures.1))
-    (λ w. rw (w.1, w.2) (building_past c.args.words.now c.loop-row.invariant c.loop-row-test.true number w.0.left))
-    c.if-number-ne0.branch
+    elim c.if-number-ne0.branch [
+      | then-number-ne0+else-last_of-ne0 w ↦
+          let bucket = w.bucket_of-bucket.ensures in
+          rw (w.heads-is, w.next-is) (building_more c.args.words.now c.loop-row.invariant c.loop-row-test.true number w.if-number-ne0.true
+          w.last_of.ensures w.if-last_of-ne0.false bucket.0 bucket.1)
+      | else-number-ne0 w ↦
+          rw (w.heads-is, w.next-is) (building_past c.args.words.now c.loop-row.invariant c.loop-row-test.true number w.if-number-ne0.false)
+    ]
 
 pub returns : goal.returns
 returns c = building_ends c.args.words.now c.requires.0 c.loop-row.invariant c.loop-row-test.false

@@ -1,0 +1,36 @@
+-- `hold_rules::last_same` meets its contract: rows of the chain are passed while they have another hold. Assumes nothing.
+use mathlib.Core.Path.{sym, ◌∙◌}
+use borrow.Author.Rules.{rules}
+use Rattle.model.specs.Sound.{same_hold}
+use Rattle.model.specs.Words.{unpack}
+use Rattle.rows.specs.Stands.{hold_row}
+use Rattle.index.proofs.Descents.{Going, going_starts, going_inside, going_found, going_down, going_on, going_ends}
+use Rattle.hold_rules.specs.Chains.{hold_bucket, hold_chains}
+use Rattle.hold_rules.proofs.last_same.Goals as goal
+
+pub loop-found-init : goal.loop-found-init
+loop-found-init c = going_starts c.requires.1.1 c.wide-found.ensures
+
+pub is_same-requires : goal.is_same-requires
+is_same-requires c = (c.requires.0, (going_inside c.loop-found.invariant c.loop-found-test.true, c.requires.1.0))
+
+pub returns-then-is_same : goal.returns-then-is_same
+returns-then-is_same c =
+    going_found c.loop-found.invariant c.loop-found-test.true
+    (sym c.is_same.ensures ∙ c.if-is_same.true)
+
+pub bounds-next-found : goal.bounds-next-found
+bounds-next-found c =
+    let inside = going_inside c.loop-found.invariant c.loop-found-test.true in
+    search rules
+
+pub loop-found-smaller : goal.loop-found-smaller
+loop-found-smaller c = going_down c.loop-found.invariant c.loop-found-test.true c.wide-found-in-loop-found.ensures
+
+pub loop-found-preserved : goal.loop-found-preserved
+loop-found-preserved c =
+    going_on c.loop-found.invariant c.loop-found-test.true c.wide-found-in-loop-found.ensures
+    (sym c.is_same.ensures ∙ c.if-is_same.false)
+
+pub returns : goal.returns
+returns c = going_ends c.loop-found.invariant c.loop-found-test.false
