@@ -1,3 +1,4 @@
+#![tactic(auto)]
 // The paths of an accepted record walked where they stand in it, for the process that calls.
 ghost use Rattle.std.specs.Prelude.{◌≡◌, true, false};
 ghost use Rattle.model.specs.Sound.{sound};
