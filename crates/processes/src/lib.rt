@@ -1,3 +1,4 @@
+#![tactic(auto)]
 // Calls 1 to 4, a file each: the tests from the top down, and no word written before the last of them has passed. What they share stands here: processes listed and dropped, and
 // the tests of their table.
 ghost use Rattle.std.specs.Prelude.{◌≡◌, ◌≤◌, ◌<◌};

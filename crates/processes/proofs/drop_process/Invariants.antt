@@ -1,0 +1,18 @@
+-- `processes::drop_process` meets its contract: the rows left to drop give what the whole drop gives. Assumes nothing.
+use Prim.Native.Nat.{◌-◌, ◌≤◌}
+use native.Mathlib.Omega.{arith}
+use borrow.Author.Rules.{rules}
+use Rattle.model.specs.Calls.{drop_process}
+use Rattle.model.specs.Words.{unpack}
+use Rattle.model.specs.Tables.{with_processes, process_rows}
+use Rattle.processes.proofs.Rows.{dropping_process, process_begin, process_end, process_on}
+use Rattle.holds.proofs.Towards.{Towards}
+use Rattle.processes.proofs.drop_process.Given as goal
+
+abbrev pub invariant-loop-i : goal.invariant-loop-i
+invariant-loop-i l =
+    (l.i ≤ process_rows)
+    × (Towards (dropping_process l.process) (with_processes (unpack l.initial.words) (drop_process l.process (unpack l.initial.words).processes)) l.i l.words)
+
+abbrev pub decreases-loop-i : goal.decreases-loop-i
+decreases-loop-i l = process_rows - l.i
