@@ -1,3 +1,4 @@
+#![tactic(auto)]
 // Calls 8 to 11: create, mkdir, symlink and link.
 ghost use Rattle.std.specs.Prelude.{◌≡◌, ◌≤◌, ◌<◌};
 ghost use Rattle.model.specs.Calls.{make, create, mkdir, symlink, link};

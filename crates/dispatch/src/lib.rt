@@ -1,3 +1,4 @@
+#![tactic(auto)]
 // The thirteen calls by number.
 ghost use Rattle.model.specs.Calls.{step};
 ghost use Rattle.model.specs.Words.{unpack};

@@ -1,3 +1,4 @@
+#![tactic(auto)]
 // Calls 5 to 7: check, look and use.
 ghost use Rattle.model.specs.Calls.{looking, check, look, use_of};
 ghost use Rattle.model.specs.Words.{unpack};

@@ -1,3 +1,4 @@
+#![tactic(auto)]
 // Calls 12 and 13: unlink and rmdir.
 ghost use Rattle.model.specs.Calls.{unlink, rmdir};
 ghost use Rattle.model.specs.Words.{unpack};

@@ -22,7 +22,7 @@ pub walk-walked-requires : goal.walk-walked-requires
 walk-walked-requires c =
     let found-sound = c.if-not-sound_and_index.false in
     let rows = sound_has_sound_rows c.args.words.now (sym c.sound_and_index.ensures.0 ∙ found-sound) in
-    (c.sound_and_index.ensures.1 found-sound, (rows, sym c.valid_path.ensures ∙ c.if-not-valid_path.false))
+    record { indexed = c.sound_and_index.ensures.1 found-sound; sound = rows; valid = sym c.valid_path.ensures ∙ c.if-not-valid_path.false }
 
 pub put_goal-requires : goal.put_goal-requires
 put_goal-requires c =

@@ -1,0 +1,27 @@
+-- `creations::link` meets its contract: refused on the way, or what stands behind both walks. Assumes nothing.
+use borrow.Author.Rules.{rules}
+use Rattle.model.specs.Calls.{link, link_at}
+use Rattle.model.specs.Words.{unpack}
+use Rattle.records.specs.Reading.{part_of}
+use Rattle.reaching.proofs.Ways.{both_came, both_go_on, both_refused}
+use Rattle.creations.proofs.link.Goals as goal
+
+pub link_at-requires : goal.link_at-requires
+link_at-requires c =
+    let goals = both_came c.requires.0 c.requires.1.0 c.requires.1.1 c.reach_both-reached.ensures c.in-Open.is in
+    (goals.0.behind, goals.1.countable)
+
+-- one of the paths leads nowhere
+pub returns-in-Refused : goal.returns-in-Refused
+unfolding link
+returns-in-Refused c = both_refused c.requires.0 c.requires.1.0 c.requires.1.1 c.reach_both-reached.ensures c.in-Refused.is _
+
+-- or both to these goals
+pub returns-in-Open : goal.returns-in-Open
+unfolding link
+returns-in-Open c =
+    let t = unpack c.args.words.now in
+    let bytes = c.args.bytes.now in
+    let goals = both_came c.requires.0 c.requires.1.0 c.requires.1.1 c.reach_both-reached.ensures c.in-Open.is in
+    both_go_on t (part_of bytes c.args.fields.path1) (part_of bytes c.args.fields.path2) goals.0 goals.1 (link_at t)
+    c.link_at.ensures

@@ -1,0 +1,48 @@
+-- `creations::make` meets its contract: refused on the way, or what stands behind the walk. Assumes nothing.
+use mathlib.Core.Bool.{false}
+use native.Mathlib.Omega.{arith}
+use borrow.Author.Rules.{rules}
+use Rattle.model.specs.Calls.{make, make_at}
+use Rattle.model.specs.Words.{unpack}
+use Rattle.records.specs.Reading.{part_of}
+use Rattle.reaching.proofs.Accepting.{path2_within, slice_part, slice_short}
+use Rattle.reaching.proofs.Ways.{came, goes_on, refused_on_the_way}
+use Rattle.creations.proofs.Entered.{target_as}
+use Rattle.creations.proofs.make.Goals as goal
+
+pub overflow_add-end : goal.overflow_add-end
+overflow_add-end c =
+    let ready = c.requires.0 in
+    omega (arith, path2_within ready.bytes ready.read)
+
+pub slice_bounds-make_at-start : goal.slice_bounds-make_at-start
+slice_bounds-make_at-start c =
+    let ready = c.requires.0 in
+    omega (arith, path2_within ready.bytes ready.read)
+
+pub slice_bounds-make_at-end : goal.slice_bounds-make_at-end
+slice_bounds-make_at-end c =
+    let ready = c.requires.0 in
+    omega (arith, path2_within ready.bytes ready.read)
+
+pub make_at-requires : goal.make_at-requires
+make_at-requires c =
+    let kinds = c.requires.1.1 in
+    let goal = came c.requires.0 c.requires.1.0 false c.reach-reached.ensures c.in-Open.is in
+    (goal.behind, (kinds.0, (kinds.1.0, slice_short c.args.bytes.now c.args.fields.path2 kinds.1.1)))
+
+-- path 1 leads nowhere
+pub returns-in-Refused : goal.returns-in-Refused
+unfolding make
+returns-in-Refused c = refused_on_the_way c.requires.0 c.requires.1.0 false c.reach-reached.ensures c.in-Refused.is _
+
+-- or to this goal, and the target's bytes are path 2
+pub returns-in-Open : goal.returns-in-Open
+unfolding make
+returns-in-Open c =
+    let t = unpack c.args.words.now in
+    let kind = c.args.kind in
+    let target = part_of c.args.bytes.now c.args.fields.path2 in
+    let goal = came c.requires.0 c.requires.1.0 false c.reach-reached.ensures c.in-Open.is in
+    let bytes = slice_part c.args.bytes.now c.args.fields.path2 in
+    goes_on goal (make_at kind target t) (target_as kind t _ _ bytes c.make_at.ensures)
