@@ -1,3 +1,4 @@
+#![tactic(auto)]
 // Records served over lent tables, which are tested once: sound tables stay sound.
 ghost use Rattle.std.specs.Prelude.{◌≡◌, true, false, ◌<◌};
 ghost use Rattle.model.specs.Calls.{step};

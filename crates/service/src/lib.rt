@@ -1,3 +1,4 @@
+#![tactic(auto)]
 // The service: one record served over lent tables. Document 01, 'Numbers given back'.
 ghost use Rattle.std.specs.Prelude.{◌≡◌};
 ghost use Rattle.model.specs.Serve.{judged};

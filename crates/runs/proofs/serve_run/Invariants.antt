@@ -1,0 +1,15 @@
+-- `runs::serve_run` meets its contract: what was done and what is left give what the whole run gives. Assumes nothing.
+use mathlib.Core.Path.{sym, ◌∙◌}
+use Prim.Native.Nat.{◌-◌}
+use native.Mathlib.Omega.{arith}
+use lib.ListN.{length}
+use Rattle.runs.proofs.Onward.{Going, going_starts, next_within, stops_cut, stops_full, went_on}
+use borrow.Author.Rules.{rules}
+use Rattle.model.specs.Answers.{answer_slot}
+use Rattle.runs.proofs.serve_run.Given as goal
+
+abbrev pub invariant-loop-served : goal.invariant-loop-served
+invariant-loop-served l = Going l.initial.words l.records l.initial.answers l.words l.heads l.next l.answers l.is_sound l.served l.taken
+
+abbrev pub decreases-loop-served : goal.decreases-loop-served
+decreases-loop-served l = length l.initial.answers - l.served
