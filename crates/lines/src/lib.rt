@@ -1,3 +1,4 @@
+#![tactic(auto)]
 // Numbers and texts written into a lent slice, and the line that they make. Document 01, 'The listing'.
 ghost use Rattle.std.specs.Prelude.{◌≡◌, [], ◌∷◌, ◌+◌, ◌≤◌, ◌<◌, length};
 ghost use Rattle.model.specs.Listing.{digits, line};

@@ -1,0 +1,5 @@
+-- `lines::put_digits` goes on with a tenth of the number.
+use Rattle.lines.proofs.+put_digits.Given as goal
+
+abbrev pub decreases-put_digits : goal.decreases-put_digits
+decreases-put_digits l = l.number
