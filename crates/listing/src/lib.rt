@@ -1,3 +1,4 @@
+#![tactic(auto)]
 // The listing of document 01: a line for each record, from any parts of the input.
 ghost use Rattle.std.specs.Prelude.{◌≡◌};
 ghost use Rattle.runs.specs.Tested.{Tested};
