@@ -1,3 +1,4 @@
+#![tactic(auto)]
 // The functions of the archive, for C and Rust to link: numbers and slices alone, no function requires anything, and each gives what the proved
 // function below it gives, as numbers by one definition.
 ghost use Rattle.records.specs.Packing.{called};

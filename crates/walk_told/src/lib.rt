@@ -1,3 +1,4 @@
+#![tactic(auto)]
 // Where a path leads over lent words, without a call: any words and any path are tested first, and the goal of the walk is written as numbers.
 ghost use Rattle.std.specs.Prelude.{◌≡◌, ◌+◌, ◌*◌, ◌≤◌, ◌<◌, length, replicate};
 ghost use Rattle.std.proofs.lemmas.List.Edits.{sets};
