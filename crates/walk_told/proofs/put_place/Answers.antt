@@ -1,0 +1,6 @@
+-- Five words in a row.
+use Rattle.walk_told.proofs.Stored.{place_stored}
+use Rattle.walk_told.proofs.put_place.Goals as goal
+
+pub returns : goal.returns
+returns c = place_stored c.args.goal.now c.args.at c.args.place
