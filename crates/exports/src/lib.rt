@@ -1,5 +1,6 @@
-// The functions of the archive, for C and Rust to link: numbers and slices alone, no function requires anything, and each gives what the proved
-// function below it gives, as numbers by one definition.
+#![tactic(auto)]
+// What the functions of the archive do, which `exports_c` gives to C and Rust to link: numbers and slices alone, no function requires anything,
+// and each gives what the proved function below it gives, as numbers by one definition.
 ghost use Rattle.records.specs.Packing.{called};
 ghost use Rattle.model.specs.Sound.{sound};
 ghost use Rattle.exports.specs.Numbers.{field_numbers, Small, ReadsAs, PacksAs, MakesFresh, ServesAs, soundness_number, WalksAs};
@@ -30,8 +31,7 @@ fn put_fields(numbers: &mut [u32; 6], fields: Fields)
 
 // Reads the record at the front of the bytes: done with the call's number, or refused; the six fields are the process, the argument, and the
 // start and length of path 1 and path 2, all 0 where it is refused.
-#[unsafe(no_mangle)]
-pub extern "C" fn tickbutton_read(bytes: &[u8], fields: &mut [u32; 6]) -> u64
+pub fn tickbutton_read(bytes: &[u8], fields: &mut [u32; 6]) -> u64
     ensures { ReadsAs bytes.now result fields.new }
 {
     match records::read(bytes) {
@@ -50,8 +50,7 @@ pub extern "C" fn tickbutton_read(bytes: &[u8], fields: &mut [u32; 6]) -> u64
 }
 
 // Packs a call into the front of the destination: done with the record's length, or refused, and then nothing is written.
-#[unsafe(no_mangle)]
-pub extern "C" fn tickbutton_pack(
+pub fn tickbutton_pack(
     call: u32,
     process: u16,
     argument: u16,
@@ -68,8 +67,7 @@ pub extern "C" fn tickbutton_pack(
 }
 
 // Makes the words fresh tables: done with 0, or refused with 1 where there are not 8,512 of them, and then nothing is written.
-#[unsafe(no_mangle)]
-pub extern "C" fn tickbutton_fresh(words: &mut [u32]) -> u64
+pub fn tickbutton_fresh(words: &mut [u32]) -> u64
     ensures { MakesFresh words.old result words.new }
 {
     match fresh::fresh(words) {
@@ -79,8 +77,7 @@ pub extern "C" fn tickbutton_fresh(words: &mut [u32]) -> u64
 }
 
 // Serves the record at the front of the bytes: the answer, the bytes taken, and the words afterwards.
-#[unsafe(no_mangle)]
-pub extern "C" fn tickbutton_serve(words: &mut [u32], record: &[u8]) -> u64
+pub fn tickbutton_serve(words: &mut [u32], record: &[u8]) -> u64
     ensures { ServesAs words.old «record».now result words.new }
 {
     let verdict = service::serve(words, record);
@@ -89,8 +86,7 @@ pub extern "C" fn tickbutton_serve(words: &mut [u32], record: &[u8]) -> u64
 }
 
 // Whether the words are sound tables: done with 0 where they are, else refused with 1.
-#[unsafe(no_mangle)]
-pub extern "C" fn tickbutton_sound(words: &[u32]) -> u64
+pub fn tickbutton_sound(words: &[u32]) -> u64
     ensures { result ≡ soundness_number (sound words.now) }
 {
     if soundness::sound(words) {
@@ -102,8 +98,7 @@ pub extern "C" fn tickbutton_sound(words: &[u32]) -> u64
 // Walks a path over the words, a link at its last name too where that is asked: done with the node that it leads to, 0 for an absence, or
 // refused. The goal is the number of elements, the end entry and the elements in the order met, each as its directory and name block, and zeros
 // behind them; where there is no end entry its words are zeros, and all are where the walk is refused.
-#[unsafe(no_mangle)]
-pub extern "C" fn tickbutton_walk(
+pub fn tickbutton_walk(
     words: &[u32],
     path: &[u8],
     follow_last: bool,
@@ -119,8 +114,7 @@ pub extern "C" fn tickbutton_walk(
 
 // Serves record after record, as long as a whole one is left and a slot for its answer: how many were served, in `taken` how many bytes they are,
 // and in each slot its record's answer, with no bytes told. The tables are tested once.
-#[unsafe(no_mangle)]
-pub extern "C" fn tickbutton_serve_run(
+pub fn tickbutton_serve_run(
     words: &mut [u32],
     bytes: &[u8],
     answers: &mut [u64],

@@ -6,7 +6,6 @@ use Prim.Native.Nat.{ℕ, suc, ◌+◌, ◌≤◌, ◌<◌}
 use native.Mathlib.Omega.{arith}
 use lib.ListN.{length, take, drop, set, get_or, length-take, length-drop}
 use lib.Seq.{sets, get_or-set_other, get_or-drop, length-take-le}
-use Rattle.io.specs.Counts.{IsPrefixLen}
 use Rattle.listing.specs.declared.Part.{Part}
 use Rattle.lines.specs.Puts.{Puts}
 use Rattle.listing.specs.Parts.{filled, list_part}
@@ -32,20 +31,10 @@ module _ {l m : List ℕ} (from i : ℕ) (p : Puts l 0 (take i (drop from l)) (0
       let q = puts_next (drop from l) i k p in
       rw e (rw z at q)
 
-  pub put_all : {kept : ℕ} → i ≤ kept → kept ≤ i → Puts l 0 (take kept (drop from l)) kept m
-  put_all {kept} h k =
-      let e : 0 + i ≡ kept = omega arith in
-      let f : i ≡ kept = omega arith in
-      rw (e, f) at p
-
--- what was kept is within the buffer
-pub kept_fits : (l : List ℕ) (from kept : ℕ) {m : List ℕ} {end : ℕ} → Puts l 0 (take kept (drop from l)) end m → end ≤ length m
-kept_fits l from kept p = omega (arith, p.end_is, puts_length p, length-take kept (drop from l), length-drop from l)
-
 -- THE LINES OF WHAT IS HELD: they fit the destination, and the bytes taken are among those held
 module _ (last : Bool) (w bytes : List ℕ) (held place : ℕ) (out : List ℕ) {r : Part} {v o : List ℕ}
     (e : filled r v o ≡ list_part last w (take held bytes) place out) where
-  pub lines_fit : length o ≡ length out → IsPrefixLen r.length o
+  pub lines_fit : length o ≡ length out → (r.length ≤ length o) × (r.length ≡ length (take r.length o))
   lines_fit k =
       let h : r.length ≤ length o = omega (arith, (answered_facts last w (take held bytes) place out e).fits_out) in
       (h, sym (length-take-le r.length o h))
