@@ -14,7 +14,7 @@ use Rattle.model.specs.Paths.{longest_target}
 use Rattle.model.specs.Tables.{entry_rows, node_rows, hold_rows, process_rows, no_entry, no_node, no_hold, no_process, free_entry, free_node, free_hold, free_process}
 use Rattle.model.specs.Tables.{with_entries, with_nodes, with_holds, with_processes}
 use Rattle.model.specs.Words.{entry_words, node_words, hold_words, process_words}
-use Rattle.model.specs.Words.{bits, words, bytes, pack_entry, unpack_entry, pack_node, unpack_node, pack_hold, unpack_hold, pack_process, unpack_process, unpack}
+use Rattle.model.specs.Words.{bits, words, pack_entry, unpack_entry, pack_node, unpack_node, pack_hold, unpack_hold, pack_process, unpack_process, unpack}
 use Rattle.laws.proofs.Each.{Each, none, one}
 use Rattle.laws.proofs.Pieces.{Byte}
 use Rattle.laws.proofs.Words.{node_back, process_back}

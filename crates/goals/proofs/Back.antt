@@ -16,7 +16,6 @@ use Rattle.laws.proofs.Words as model_words
 use Rattle.laws.proofs.Words.{NameFits}
 use Rattle.rows.specs.Blocks.{Named, name_of, place_of}
 use Rattle.rows.proofs.Blocks.{name_back, block_named}
-use Rattle.goals.specs.declared.Place.{Place}
 use Rattle.goals.specs.declared.Stop.TheVariants.{Refused}
 use Rattle.goals.specs.declared.Walk.{Walk}
 use Rattle.goals.specs.Goals.{place_row, blank, room_of, stop_of, walked, place_at, end_at, node_at_end, goal_of, StopNamed, PlaceNamed, WalkNamed}

@@ -3,13 +3,13 @@ use mathlib.Core.Path.{◌≡◌, refl, sym, ap, ◌∙◌}
 use mathlib.Core.Bool.{Bool, true, false, ◌||◌, true≢false}
 use mathlib.Core.Logic.{◌≢◌}
 use mathlib.Core.List.{List}
-use mathlib.Core.Option.{Option, none}
+use mathlib.Core.Option.{Option}
 use Prim.Native.Nat.{ℕ, suc, ◌+◌, ◌≤◌, ◌<◌}
 use native.Mathlib.Omega.{arith}
 use borrow.Author.Tests.{eqb-true, eqb-false, ne_eqb, le-leb}
 use lib.Dec.{eqb, leb}
 use lib.ListN.{length}
-use Rattle.model.specs.Lists.{any, count, first, put}
+use Rattle.model.specs.Lists.{any, first, put}
 use Rattle.model.specs.Paths.{valid_path}
 use Rattle.model.specs.Tables.{Place, Entry, Node, Tables, a_directory, no_node, free_entry, free_node, node_at, is_directory, lookup, entry_rows}
 use Rattle.model.specs.Sound.{leading_to, count_fits, target_fits}

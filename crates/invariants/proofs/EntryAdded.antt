@@ -9,7 +9,7 @@ use native.Mathlib.Omega.{arith}
 use borrow.Author.Tests.{eq-eqb, ne_eqb}
 use lib.Dec.{eqb}
 use lib.ListN.{length}
-use Rattle.model.specs.Lists.{any, count, put}
+use Rattle.model.specs.Lists.{any, put}
 use Rattle.model.specs.Paths.{valid_name}
 use Rattle.model.specs.Tables.{Place, Entry, Node, free_entry, free_node, same_place, node_at, is_directory, at, lookup}
 use Rattle.model.specs.Sound.{same_entry, leading_to, count_fits, target_fits}

@@ -7,7 +7,7 @@ use Prim.Native.Nat.{ℕ, ◌+◌, ◌-◌}
 use native.Mathlib.Omega.{arith}
 use borrow.Author.Tests.{eqb-true, eqb-false, eq-eqb, ne_eqb, leb-true, le-leb}
 use lib.Dec.{eqb, leb}
-use Rattle.model.specs.Lists.{count, clear}
+use Rattle.model.specs.Lists.{clear}
 use Rattle.model.specs.Tables.{Place, Entry, Node, a_directory, no_entry, no_node, free_entry, free_node, node_at, is_directory, at, lookup}
 use Rattle.model.specs.Sound.{same_entry, leading_to, count_fits, target_fits}
 use Rattle.model.specs.Calls.{set_node, one_less}

@@ -13,7 +13,7 @@ use lib.ListN.{length}
 use Rattle.model.specs.Lists.{same, empty, all}
 use Rattle.model.specs.Refusals.{granted}
 use Rattle.model.specs.Paths.{Name, slash, dot, before, parts, names_behind, names, absolute, name_byte, valid_name, valid_path, valid_target, longest_name, longest_path, longest_target, valid_names}
-use Rattle.model.specs.Tables.{Place, Entry, Node, Hold, Tables, no_hold, a_file, a_directory, a_link, end_role, element_role, free_node, free_hold, node_at, is_directory, lookup, listed}
+use Rattle.model.specs.Tables.{Place, Entry, Node, Hold, Tables, no_hold, a_file, a_directory, a_link, end_role, element_role, free_node, free_hold, node_at, is_directory, lookup}
 use Rattle.model.specs.Sound.{target_fits}
 use Rattle.model.specs.Walk.{Goal, Found, nothing, file, directory, link, found_node, found, walk}
 use Rattle.model.specs.Holds.{add_holds, drop_holds, taking, wanted}

@@ -8,7 +8,7 @@ use Rattle.model.specs.Lists.{empty}
 use Rattle.model.specs.Refusals.{granted}
 use Rattle.model.specs.Tables.{Tables, no_entry, no_node, no_hold, no_process, a_file, a_directory, a_link, fresh, entry_rows, hold_rows, process_rows, other_nodes}
 use Rattle.model.specs.Sound.{target_fits, sound_rows}
-use Rattle.model.specs.Records.{Call, target, calls, row_of}
+use Rattle.model.specs.Records.{Call, calls, row_of}
 use Rattle.model.specs.Calls.{Change, step}
 use Rattle.model.specs.Serve.{computing}
 use Rattle.laws.proofs.Each.{none, one, each_replicate}

@@ -9,7 +9,7 @@ use lib.Seq.{sets, get_or-set_other, get_or-drop, length-take-le}
 use Rattle.listing.specs.declared.Part.{Part}
 use Rattle.lines.specs.Puts.{Puts}
 use Rattle.listing.specs.Parts.{filled, list_part}
-use Rattle.lines.proofs.Runs.{puts_next, puts_length}
+use Rattle.lines.proofs.Runs.{puts_next}
 use Rattle.listing.proofs.PartFacts.{answered_facts}
 
 -- what stands behind the bytes that were put is as it was

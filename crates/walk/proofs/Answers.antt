@@ -7,14 +7,11 @@ use mathlib.Core.List.{List, [], ◌∷◌, append-nil}
 use Prim.Native.Nat.{ℕ, zero, suc, ◌+◌}
 use native.Mathlib.Omega.{arith}
 use borrow.Author.Tests.{eq-eqb, ne_eqb}
-use denote.Enum.Declared.{tag_of}
-use types.Run.{OneOf, miss}
 use Rattle.model.specs.Refusals.{Outcome, refused}
 use Rattle.model.specs.Paths.{Name, names}
 use Rattle.model.specs.Tables as model_tables
 use Rattle.model.specs.Tables.{Node, a_directory, a_link, node_at, lookup}
 use Rattle.model.specs.Walk.{Goal, Found, link, found, Trip, here, astray, past, after_link, start, follow, turn, trip_names}
-use Rattle.goals.specs.contracts.Stop.{the_type}
 use Rattle.goals.specs.declared.Place.{Place}
 use Rattle.goals.specs.declared.Stop.{Stop}
 use Rattle.goals.specs.declared.Stop.TheVariants.{Refused, Root, Entry}

@@ -7,8 +7,6 @@ use Prim.Native.Nat.{ℕ, zero, suc, ◌+◌, ◌-◌, ◌≤◌}
 use native.Mathlib.Omega.{arith}
 use native.Mathlib.Numerals.{add-one}
 use borrow.Author.Tests.{eqb-true, eqb-false}
-use denote.Enum.Declared.{tag_of}
-use types.Run.{OneOf, miss}
 use lib.Dec.{eqb}
 use lib.ListN.{length, set, drop, replicate, length-replicate}
 use lib.Seq.{sets, sets-eq}
@@ -16,7 +14,6 @@ use Rattle.model.specs.Refusals.{Outcome, refused, granted, ◌>>=◌}
 use Rattle.model.specs.Paths.{Name}
 use Rattle.model.specs.Tables.{Place, Entry, Node, a_directory, node_at, is_directory}
 use Rattle.model.specs.Walk.{Goal, past}
-use Rattle.goals.specs.contracts.Stop.{the_type}
 use Rattle.goals.specs.declared.Stop.{Stop}
 use Rattle.goals.specs.declared.Stop.TheVariants.{Refused, Root, Entry as StoppedAt}
 use Rattle.goals.specs.Goals.{place_row, stop_of, node_at_end}

@@ -29,7 +29,6 @@ use Rattle.rows.specs.Stands.{node_row}
 use Rattle.rows.proofs.Blocks.{name_back, block_named}
 use Rattle.rows.proofs.Fields.{node_in_row}
 use Rattle.rows.proofs.Parts.{nodes_full}
-use Rattle.goals.specs.declared.Place.{Place}
 use Rattle.goals.specs.declared.Stop.TheVariants.{Refused, Root, Entry}
 use Rattle.goals.specs.Goals.{place_row}
 use Rattle.paths.specs.declared.Next.TheVariants.{Name as NamedNext}

@@ -16,7 +16,6 @@ use Rattle.model.specs.Words.{unpack}
 use Rattle.laws.proofs.Bools.{not_true, not_false}
 use Rattle.laws.proofs.Words.{sound_has_sound_rows}
 use Rattle.rows.proofs.Blocks.{block_of_words}
-use Rattle.goals.specs.declared.Place.{Place}
 use Rattle.goals.specs.declared.Walk.{Walk}
 use Rattle.goals.specs.Goals.{place_row, blank, room_of, stop_of, walked}
 use Rattle.walk.proofs.Ends.{Ends}

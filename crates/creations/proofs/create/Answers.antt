@@ -1,7 +1,6 @@
 -- `creations::create` meets its contract: path 2 is blank. Assumes nothing.
 use mathlib.Core.Path.{ap, sym}
 use native.Mathlib.Omega.{arith}
-use borrow.Author.Rules.{rules}
 use Rattle.model.specs.Calls.{create, make}
 use Rattle.model.specs.Words.{unpack}
 use Rattle.rows.proofs.Meeting.{meets_as}

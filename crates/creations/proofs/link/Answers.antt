@@ -1,5 +1,4 @@
 -- `creations::link` meets its contract: refused on the way, or what stands behind both walks. Assumes nothing.
-use borrow.Author.Rules.{rules}
 use Rattle.model.specs.Calls.{link, link_at}
 use Rattle.model.specs.Words.{unpack}
 use Rattle.records.specs.Reading.{part_of}

@@ -1,7 +1,6 @@
 -- `creations::make` meets its contract: refused on the way, or what stands behind the walk. Assumes nothing.
 use mathlib.Core.Bool.{false}
 use native.Mathlib.Omega.{arith}
-use borrow.Author.Rules.{rules}
 use Rattle.model.specs.Calls.{make, make_at}
 use Rattle.model.specs.Words.{unpack}
 use Rattle.records.specs.Reading.{part_of}

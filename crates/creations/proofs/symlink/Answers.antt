@@ -1,6 +1,5 @@
 -- `creations::symlink` meets its contract: path 2 is the target. Assumes nothing.
 use native.Mathlib.Omega.{arith}
-use borrow.Author.Rules.{rules}
 use Rattle.model.specs.Calls.{symlink}
 use Rattle.reaching.proofs.Accepting.{target_short}
 use Rattle.creations.proofs.symlink.Goals as goal

@@ -1,18 +1,13 @@
 -- `dispatch::dispatch` meets its contract: each number leads to its own call, and any other is refused with 2. Assumes nothing.
-use mathlib.Core.Path.{refl, ◌≡◌}
-use mathlib.Core.Bool.{true}
-use Prim.Native.Nat.{ℕ}
-use borrow.Author.Rules.{rules}
+use mathlib.Core.Path.{refl}
 use Rattle.model.specs.Calls.{enter, exec, exit, fork}
-use Rattle.model.specs.Records.{Call, calls, known, row_of}
-use Rattle.model.specs.Tables.{Tables}
+use Rattle.model.specs.Records.{calls, known, row_of}
 use Rattle.model.specs.Words.{unpack}
-use Rattle.rows.specs.Stands.{Stands}
 use Rattle.rows.proofs.Meeting.{meets_as, refused_outright}
 use Rattle.reaching.proofs.Accepting.{child_counts, process_counts}
 use Rattle.reaching.proofs.Cells.{known_by, path2_by, walks_by}
 use Rattle.reaching.proofs.Walking.{stands_sound}
-use Rattle.reaching.specs.Ready.{Ready, WalksTwice, call_in}
+use Rattle.reaching.specs.Ready.{WalksTwice, call_in}
 use Rattle.dispatch.proofs.Arms.{step_enter, step_fork, step_exec, step_exit, step_check, step_look, step_use, step_create, step_mkdir, step_symlink, step_link, step_unlink, step_rmdir, step_unknown}
 use Rattle.dispatch.proofs.dispatch.Goals as goal
 

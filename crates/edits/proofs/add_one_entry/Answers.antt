@@ -2,7 +2,6 @@
 use mathlib.Core.Logic.{inl, inr}
 use mathlib.Core.Path.{ap}
 use native.Mathlib.Omega.{arith}
-use borrow.Author.Rules.{rules}
 use Rattle.edits.proofs.Counts.{no_node_set, one_more_set}
 use Rattle.model.specs.Calls.{one_more}
 use Rattle.model.specs.Tables.{Node, node_at}

@@ -1,5 +1,4 @@
 -- `edits::clear_entry` meets its contract: the entries' part is lent. Assumes nothing.
-use borrow.Author.Rules.{rules}
 use Rattle.edits.proofs.Written.{clear_entry_is}
 use Rattle.edits.proofs.clear_entry.Goals as goal
 

@@ -1,5 +1,4 @@
 -- `edits::clear_hold` meets its contract: the holds' part is lent. Assumes nothing.
-use borrow.Author.Rules.{rules}
 use Rattle.edits.proofs.Written.{clear_hold_is}
 use Rattle.edits.proofs.clear_hold.Goals as goal
 

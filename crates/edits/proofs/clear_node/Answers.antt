@@ -1,5 +1,4 @@
 -- `edits::clear_node` meets its contract: the nodes' part is lent. Assumes nothing.
-use borrow.Author.Rules.{rules}
 use Rattle.edits.proofs.Written.{clear_node_is}
 use Rattle.edits.proofs.clear_node.Goals as goal
 

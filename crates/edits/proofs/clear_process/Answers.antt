@@ -1,5 +1,4 @@
 -- `edits::clear_process` meets its contract: the processes' part is lent. Assumes nothing.
-use borrow.Author.Rules.{rules}
 use Rattle.edits.proofs.Written.{clear_process_is}
 use Rattle.edits.proofs.clear_process.Goals as goal
 

@@ -2,7 +2,6 @@
 use mathlib.Core.Logic.{inl, inr}
 use Prim.Native.Nat.{◌-◌}
 use native.Mathlib.Omega.{arith}
-use borrow.Author.Rules.{rules}
 use Rattle.edits.proofs.Counts.{counted_used, no_node_set, one_less_last, one_less_none, one_less_set}
 use Rattle.model.specs.Calls.{one_less}
 use Rattle.model.specs.Tables.{node_at}

@@ -1,7 +1,6 @@
 -- `edits::put_count` meets its contract: one word of the row. Assumes nothing.
 use mathlib.Core.Path.{ap}
 use Prim.Native.Nat.{◌*◌}
-use borrow.Author.Rules.{rules}
 use lib.ListN.{set}
 use Rattle.model.specs.Words.{node_words}
 use Rattle.edits.proofs.put_count.Goals as goal

@@ -1,6 +1,5 @@
 -- `edits::put_hold` meets its contract: what an entry begins with too, and the role. Assumes nothing.
 use Prim.Native.Nat.{◌*◌}
-use borrow.Author.Rules.{rules}
 use Rattle.edits.proofs.Written.{hold_stored}
 use Rattle.model.specs.Words.{hold_words}
 use Rattle.edits.proofs.put_hold.Goals as goal

@@ -1,6 +1,5 @@
 -- `edits::put_named` meets its contract: five words in a row. Assumes nothing.
 use native.Mathlib.Omega.{arith}
-use borrow.Author.Rules.{rules}
 use lib.ListN.{length-set}
 use Rattle.edits.proofs.Written.{named_stored}
 use Rattle.edits.proofs.put_named.Goals as goal

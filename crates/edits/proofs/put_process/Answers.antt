@@ -1,6 +1,5 @@
 -- `edits::put_process` meets its contract: one word. Assumes nothing.
 use mathlib.Core.Path.{ap}
-use borrow.Author.Rules.{rules}
 use lib.ListN.{set}
 use Rattle.edits.proofs.put_process.Goals as goal
 

@@ -1,10 +1,8 @@
 -- `edits::put_target` meets its contract: what is left to store gives the whole. Assumes nothing.
-use mathlib.Core.Path.{◌≡◌, refl}
-use Prim.Native.Nat.{◌+◌, ◌-◌, ◌≤◌}
+use mathlib.Core.Path.{refl}
 use native.Mathlib.Omega.{arith}
 use borrow.Author.Rules.{rules}
-use lib.ListN.{drop, length, length-set}
-use lib.Seq.{sets}
+use lib.ListN.{length-set}
 use Rattle.edits.proofs.Written.{target_word_is}
 use Rattle.laws.proofs.Loops.{store_done, store_onward, store_start}
 use Rattle.laws.proofs.Pieces.{filled_length, words_length}

@@ -1,13 +1,8 @@
 -- `edits::put_target` meets its contract: what is left to store gives the whole. Assumes nothing.
-use mathlib.Core.Path.{◌≡◌, refl}
+use mathlib.Core.Path.{◌≡◌}
 use Prim.Native.Nat.{◌+◌, ◌-◌, ◌≤◌}
-use native.Mathlib.Omega.{arith}
-use borrow.Author.Rules.{rules}
-use lib.ListN.{drop, length, length-set}
+use lib.ListN.{drop, length}
 use lib.Seq.{sets}
-use Rattle.edits.proofs.Written.{target_word_is}
-use Rattle.laws.proofs.Loops.{store_done, store_onward, store_start}
-use Rattle.laws.proofs.Pieces.{filled_length, words_length}
 use Rattle.model.specs.Lists.{filled}
 use Rattle.model.specs.Words.{words}
 use Rattle.model.specs.Paths.{longest_target}

@@ -1,5 +1,4 @@
 -- `edits::set_count` meets its contract: the nodes' part is lent. Assumes nothing.
-use borrow.Author.Rules.{rules}
 use Rattle.edits.proofs.Counts.{set_count_is}
 use Rattle.edits.proofs.set_count.Goals as goal
 

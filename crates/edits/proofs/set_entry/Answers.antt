@@ -1,5 +1,4 @@
 -- `edits::set_entry` meets its contract: the entries' part is lent. Assumes nothing.
-use borrow.Author.Rules.{rules}
 use Rattle.edits.proofs.Written.{set_entry_is}
 use Rattle.edits.proofs.set_entry.Goals as goal
 

@@ -1,5 +1,4 @@
 -- `edits::set_hold` meets its contract: the holds' part is lent. Assumes nothing.
-use borrow.Author.Rules.{rules}
 use Rattle.edits.proofs.Written.{set_hold_is}
 use Rattle.edits.proofs.set_hold.Goals as goal
 

@@ -1,6 +1,5 @@
 -- `edits::set_node` meets its contract: the nodes' part is lent. Assumes nothing.
 use native.Mathlib.Omega.{arith}
-use borrow.Author.Rules.{rules}
 use Rattle.edits.proofs.Written.{set_node_is}
 use Rattle.edits.proofs.set_node.Goals as goal
 

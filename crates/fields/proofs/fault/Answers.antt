@@ -1,7 +1,6 @@
 -- `fields::fault` meets its contract: 2 comes before 3. Assumes nothing.
 use mathlib.Core.Path.{sym, ◌∙◌}
 use Rattle.fields.proofs.FieldTests.{fields_by_row, paths_by_row, fields_first, paths_second, nothing_third}
-use borrow.Author.Rules.{rules}
 use Rattle.fields.proofs.fault.Goals as goal
 
 pub returns-then-fields_broken : goal.returns-then-fields_broken

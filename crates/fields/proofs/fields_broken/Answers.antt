@@ -1,6 +1,5 @@
 -- `fields::fields_broken` meets its contract. Assumes nothing.
 use mathlib.Core.Path.{sym, ◌∙◌}
-use borrow.Author.Rules.{rules}
 use Rattle.fields.proofs.fields_broken.Goals as goal
 
 pub returns-then-numbers_broken : goal.returns-then-numbers_broken

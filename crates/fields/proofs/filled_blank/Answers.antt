@@ -1,7 +1,6 @@
 -- `fields::filled_blank` meets its contract. Assumes nothing.
 use mathlib.Core.Path.{sym}
 use Rattle.fields.proofs.FieldTests.{filled_at_blank, filled_at_path, filled_at_target}
-use borrow.Author.Rules.{rules}
 use Rattle.fields.proofs.filled_blank.Goals as goal
 
 pub returns-in-Blank : goal.returns-in-Blank

@@ -2,7 +2,6 @@
 use mathlib.Core.Path.{sym, ap, ◌∙◌}
 use mathlib.Core.Bool.{not}
 use Rattle.fields.proofs.FieldTests.{valid_at_blank, valid_at_path, valid_at_target}
-use borrow.Author.Rules.{rules}
 use Rattle.fields.proofs.not_valid.Goals as goal
 
 pub returns-in-Blank : goal.returns-in-Blank

@@ -1,7 +1,6 @@
 -- `fields::numbers_broken` meets its contract. Assumes nothing.
 use mathlib.Core.Path.{sym}
 use Rattle.fields.proofs.FieldTests.{no_such_call, process_none, zeros_set, no_argument, an_argument}
-use borrow.Author.Rules.{rules}
 use mathlib.Core.Path.{ap}
 use mathlib.Core.Bool.{not}
 use Rattle.fields.proofs.numbers_broken.Goals as goal

@@ -1,6 +1,5 @@
 -- `fields::paths_broken` meets its contract. Assumes nothing.
 use mathlib.Core.Path.{sym, ◌∙◌}
-use borrow.Author.Rules.{rules}
 use Rattle.fields.proofs.paths_broken.Goals as goal
 
 pub returns-then-not_valid : goal.returns-then-not_valid

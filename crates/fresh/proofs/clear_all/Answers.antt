@@ -1,10 +1,9 @@
 -- `fresh::clear_all` meets its contract: what is left to clear gives the whole. Assumes nothing.
-use mathlib.Core.Path.{◌≡◌, refl}
-use Prim.Native.Nat.{◌+◌, ◌-◌, ◌≤◌, ℕ}
+use mathlib.Core.Path.{refl}
+use Prim.Native.Nat.{ℕ}
 use native.Mathlib.Omega.{arith}
 use borrow.Author.Rules.{rules}
-use lib.ListN.{drop, length, length-replicate, length-set, replicate}
-use lib.Seq.{sets}
+use lib.ListN.{length, length-replicate, length-set, replicate}
 use Rattle.fresh.proofs.Made.{all_cleared, cleared_onward}
 use Rattle.laws.proofs.Loops.{store_done}
 use Rattle.fresh.proofs.clear_all.Goals as goal

@@ -1,12 +1,8 @@
 -- `fresh::clear_all` meets its contract: what is left to clear gives the whole. Assumes nothing.
-use mathlib.Core.Path.{◌≡◌, refl}
-use Prim.Native.Nat.{◌+◌, ◌-◌, ◌≤◌, ℕ}
-use native.Mathlib.Omega.{arith}
-use borrow.Author.Rules.{rules}
-use lib.ListN.{drop, length, length-replicate, length-set, replicate}
+use mathlib.Core.Path.{◌≡◌}
+use Prim.Native.Nat.{◌+◌, ◌-◌, ◌≤◌}
+use lib.ListN.{drop, length, replicate}
 use lib.Seq.{sets}
-use Rattle.fresh.proofs.Made.{all_cleared, cleared_onward}
-use Rattle.laws.proofs.Loops.{store_done}
 use Rattle.fresh.proofs.clear_all.Given as goal
 
 abbrev pub invariant-loop-k : goal.invariant-loop-k

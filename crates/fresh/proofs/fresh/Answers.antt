@@ -1,5 +1,4 @@
 -- `fresh::fresh` meets its contract: all words are cleared, then node 1 is written. Assumes nothing.
-use borrow.Author.Rules.{rules}
 use Rattle.fresh.proofs.Made.{prepares, refuses}
 use Rattle.fresh.proofs.fresh.Goals as goal
 

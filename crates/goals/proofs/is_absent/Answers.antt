@@ -1,6 +1,5 @@
 -- `goals::is_absent` meets its contract: node 0 is an absence. Assumes nothing.
 use mathlib.Core.Path.{ap}
-use borrow.Author.Rules.{rules}
 use lib.Dec.{eqb}
 use Rattle.model.specs.Calls.{absent}
 use Rattle.goals.proofs.is_absent.Goals as goal

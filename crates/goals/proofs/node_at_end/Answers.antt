@@ -1,6 +1,5 @@
 -- `goals::node_at_end` meets its contract: by where the walk stopped. Assumes nothing.
 use mathlib.Core.Path.{ap, sym}
-use borrow.Author.Rules.{rules}
 use Rattle.goals.specs.Goals.{node_at_end}
 use Rattle.goals.proofs.node_at_end.Goals as goal
 

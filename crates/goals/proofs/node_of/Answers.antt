@@ -1,5 +1,4 @@
 -- `goals::node_of` meets its contract: the node where the walk stopped. Assumes nothing.
-use borrow.Author.Rules.{rules}
 use Rattle.goals.specs.Goals.{goal_of}
 use Rattle.goals.proofs.node_of.Goals as goal
 

@@ -1,7 +1,6 @@
 -- `heads::head_of` meets its contract. Assumes nothing.
 use native.Mathlib.Omega.{arith}
 use Rattle.heads.proofs.HeadBytes.{head_by_bytes}
-use borrow.Author.Rules.{rules}
 use Rattle.heads.proofs.head_of.Goals as goal
 
 pub returns : goal.returns

@@ -1,7 +1,6 @@
 -- `heads::joined_head` meets its contract. Assumes nothing.
 use native.Mathlib.Omega.{arith}
 use Rattle.fields.specs.Given.{joined_head}
-use borrow.Author.Rules.{rules}
 use Rattle.heads.proofs.joined_head.Goals as goal
 
 pub returns : goal.returns

@@ -2,7 +2,6 @@
 use native.Mathlib.Omega.{arith}
 use lib.ListN.{length-set}
 use Rattle.heads.proofs.HeadBytes.{head_written}
-use borrow.Author.Rules.{rules}
 use Rattle.heads.proofs.write_head.Goals as goal
 
 pub bounds-destination-1 : goal.bounds-destination-1

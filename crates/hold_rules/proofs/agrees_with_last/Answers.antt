@@ -1,5 +1,4 @@
 -- `hold_rules::agrees_with_last` meets its contract: the users of two end holds on one place. Assumes nothing.
-use borrow.Author.Rules.{rules}
 use Rattle.hold_rules.proofs.Ends.{no_last, last_row, users_decide}
 use Rattle.hold_rules.proofs.agrees_with_last.Goals as goal
 

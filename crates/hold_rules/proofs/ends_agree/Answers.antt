@@ -1,12 +1,10 @@
 -- `hold_rules::ends_agree` meets its contract: each end hold is compared with the last before it on its place, and then chained. Assumes nothing.
 use mathlib.Core.Path.{refl, sym, ◌∙◌}
-use mathlib.Core.Logic.{⊎_elim}
-use Prim.Native.Nat.{◌-◌, ◌<◌}
+use Prim.Native.Nat.{◌<◌}
 use native.Mathlib.Omega.{arith}
 use borrow.Author.Rules.{rules}
 use Rattle.model.specs.Tables.{hold_rows}
-use Rattle.laws.proofs.Bools.{not_true, not_false}
-use Rattle.hold_rules.proofs.Ends.{Agreeing, agreeing_starts, agreeing_past, end_descent, agreeing_more, agreeing_broken, agreeing_ends}
+use Rattle.hold_rules.proofs.Ends.{agreeing_starts, agreeing_past, end_descent, agreeing_more, agreeing_broken, agreeing_ends}
 use Rattle.hold_rules.proofs.Used.{used_inside}
 use Rattle.hold_rules.proofs.ends_agree.Goals as goal
 use Rattle.hold_rules.proofs.ends_agree.Goals.{then-hold_role-eq-END+else-not-agrees_with_last, else-hold_role-eq-END}

@@ -1,5 +1,4 @@
 -- `hold_rules::hold_placed` meets its contract: directory and process are tested in turn. Assumes nothing.
-use borrow.Author.Rules.{rules}
 use Rattle.hold_rules.proofs.Rules.{no_hold_there, hold_no_directory, of_no_process, of_listed}
 use Rattle.hold_rules.proofs.hold_placed.Goals as goal
 

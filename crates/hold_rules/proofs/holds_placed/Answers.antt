@@ -1,11 +1,9 @@
 -- `hold_rules::holds_placed` meets its contract: hold after hold. Assumes nothing.
 use mathlib.Core.Path.{sym, ◌∙◌}
-use Prim.Native.Nat.{◌-◌, ◌<◌}
+use Prim.Native.Nat.{◌<◌}
 use native.Mathlib.Omega.{arith}
-use borrow.Author.Rules.{rules}
 use Rattle.model.specs.Tables.{hold_rows}
-use Rattle.laws.proofs.Bools.{not_true, not_false}
-use Rattle.hold_rules.proofs.Rules.{PlacedBelow, placed_none, placed_more, not_placed, all_placed}
+use Rattle.hold_rules.proofs.Rules.{placed_none, placed_more, not_placed, all_placed}
 use Rattle.hold_rules.proofs.Used.{used_inside}
 use Rattle.hold_rules.proofs.holds_placed.Goals as goal
 

@@ -1,5 +1,4 @@
 -- `hold_rules::is_same` meets its contract: process, role and place are compared in turn. Assumes nothing.
-use borrow.Author.Rules.{rules}
 use Rattle.rows.specs.Stands.{hold_row}
 use Rattle.hold_rules.proofs.Pairs.{other_process, other_role, place_decides}
 use Rattle.hold_rules.proofs.is_same.Goals as goal

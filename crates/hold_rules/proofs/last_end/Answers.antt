@@ -3,11 +3,9 @@ use mathlib.Core.Path.{sym, ◌∙◌}
 use Prim.Native.Nat.{◌-◌}
 use borrow.Author.Rules.{rules}
 use Rattle.model.specs.Sound.{is_end}
-use Rattle.model.specs.Words.{unpack}
 use Rattle.laws.proofs.Bools.{and_false, both}
 use Rattle.rows.specs.Stands.{hold_row}
-use Rattle.index.proofs.Descents.{Going, going_starts, going_inside, going_chosen, going_found, going_down, going_on, going_ends}
-use Rattle.hold_rules.specs.Chains.{place_bucket, end_chains, end_on}
+use Rattle.index.proofs.Descents.{going_starts, going_inside, going_chosen, going_found, going_down, going_on, going_ends}
 use Rattle.hold_rules.proofs.last_end.Goals as goal
 
 pub loop-found-init : goal.loop-found-init

@@ -1,12 +1,7 @@
 -- `hold_rules::last_end` meets its contract: rows of the chain are passed while they have another place. Assumes nothing.
-use mathlib.Core.Path.{sym, ◌∙◌}
-use Prim.Native.Nat.{◌-◌}
-use borrow.Author.Rules.{rules}
-use Rattle.model.specs.Sound.{is_end}
 use Rattle.model.specs.Words.{unpack}
-use Rattle.laws.proofs.Bools.{and_false, both}
 use Rattle.rows.specs.Stands.{hold_row}
-use Rattle.index.proofs.Descents.{Going, going_starts, going_inside, going_chosen, going_found, going_down, going_on, going_ends}
+use Rattle.index.proofs.Descents.{Going}
 use Rattle.hold_rules.specs.Chains.{place_bucket, end_chains, end_on}
 use Rattle.hold_rules.proofs.last_end.Given as goal
 

@@ -1,11 +1,7 @@
 -- `hold_rules::last_same` meets its contract: rows of the chain are passed while they have another hold. Assumes nothing.
 use mathlib.Core.Path.{sym, ◌∙◌}
 use borrow.Author.Rules.{rules}
-use Rattle.model.specs.Sound.{same_hold}
-use Rattle.model.specs.Words.{unpack}
-use Rattle.rows.specs.Stands.{hold_row}
-use Rattle.index.proofs.Descents.{Going, going_starts, going_inside, going_found, going_down, going_on, going_ends}
-use Rattle.hold_rules.specs.Chains.{hold_bucket, hold_chains}
+use Rattle.index.proofs.Descents.{going_starts, going_inside, going_found, going_down, going_on, going_ends}
 use Rattle.hold_rules.proofs.last_same.Goals as goal
 
 pub loop-found-init : goal.loop-found-init

@@ -1,6 +1,5 @@
 -- `hold_rules::on_same_place` meets its contract: one row's place is looked for at the other. Assumes nothing.
 use mathlib.Core.Path.{ap, ◌∙◌}
-use borrow.Author.Rules.{rules}
 use Rattle.model.specs.Tables.{same_place}
 use Rattle.model.specs.Holds.{on}
 use Rattle.rows.specs.Stands.{hold_row}

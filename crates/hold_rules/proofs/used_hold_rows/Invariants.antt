@@ -1,6 +1,5 @@
 -- `hold_rules::used_hold_rows` meets its contract: rows are passed from the last on while they are free. Assumes nothing.
-use borrow.Author.Rules.{rules}
-use Rattle.hold_rules.proofs.Used.{FreeFrom, free_from_starts, free_from_below, last_used, none_used}
+use Rattle.hold_rules.proofs.Used.{FreeFrom}
 use Rattle.hold_rules.proofs.used_hold_rows.Given as goal
 
 abbrev pub invariant-loop-rows : goal.invariant-loop-rows

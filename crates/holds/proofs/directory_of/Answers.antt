@@ -1,6 +1,5 @@
 -- `holds::directory_of` meets its contract, case by case of the scope. Assumes nothing.
 use mathlib.Core.Path.{ap, sym}
-use borrow.Author.Rules.{rules}
 use Rattle.holds.specs.Scopes.{scope_directory}
 use Rattle.holds.proofs.directory_of.Goals as goal
 

@@ -1,9 +1,7 @@
 -- `holds::drop_covered` meets its contract: the rows left to drop give what the whole drop gives. Assumes nothing.
-use Prim.Native.Nat.{◌-◌, ◌≤◌}
 use native.Mathlib.Omega.{arith}
 use borrow.Author.Rules.{rules}
-use Rattle.model.specs.Tables.{hold_rows}
-use Rattle.holds.proofs.Dropping.{LeftToDrop, drop_begin, drop_end, drop_on}
+use Rattle.holds.proofs.Dropping.{drop_begin, drop_end, drop_on}
 use Rattle.holds.specs.Scopes.{covers}
 use Rattle.holds.proofs.drop_covered.Goals as goal
 

@@ -1,5 +1,4 @@
 -- `holds::drop_if_covered` meets its contract: the row is cleared where it passes. Assumes nothing.
-use borrow.Author.Rules.{rules}
 use Rattle.holds.proofs.Dropping.{row_dropped, row_left}
 use Rattle.holds.specs.Scopes.{covers}
 use Rattle.holds.proofs.drop_if_covered.Goals as goal

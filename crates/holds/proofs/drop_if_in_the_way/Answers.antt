@@ -1,5 +1,4 @@
 -- `holds::drop_if_in_the_way` meets its contract: the row is cleared where it passes. Assumes nothing.
-use borrow.Author.Rules.{rules}
 use Rattle.model.specs.Words.{unpack}
 use Rattle.holds.proofs.Dropping.{row_dropped, row_left}
 use Rattle.holds.specs.Scopes.{in_the_way}

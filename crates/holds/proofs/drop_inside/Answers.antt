@@ -1,5 +1,4 @@
 -- `holds::drop_inside` meets its contract: the scope is the directory's inside. Assumes nothing.
-use borrow.Author.Rules.{rules}
 use Rattle.model.specs.Holds.{inside}
 use Rattle.model.specs.Words.{unpack}
 use Rattle.holds.proofs.Ways.{drops_alike, scoped_inside}

@@ -1,5 +1,4 @@
 -- `holds::drop_of_process` meets its contract: the scope is the process. Assumes nothing.
-use borrow.Author.Rules.{rules}
 use Rattle.model.specs.Holds.{of_process}
 use Rattle.model.specs.Words.{unpack}
 use Rattle.holds.proofs.Ways.{drops_alike, scoped_process}

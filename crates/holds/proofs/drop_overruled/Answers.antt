@@ -1,5 +1,4 @@
 -- `holds::drop_overruled` meets its contract: root's test is the scope's, and for others nothing is dropped. Assumes nothing.
-use borrow.Author.Rules.{rules}
 use Rattle.model.specs.Words.{unpack}
 use Rattle.model.specs.Holds.{overruled}
 use Rattle.goals.specs.Goals.{goal_of}

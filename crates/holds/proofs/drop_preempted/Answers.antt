@@ -1,5 +1,4 @@
 -- `holds::drop_preempted` meets its contract: root's test is the scope's, and for others nothing is dropped. Assumes nothing.
-use borrow.Author.Rules.{rules}
 use Rattle.model.specs.Words.{unpack}
 use Rattle.model.specs.Holds.{preempted}
 use Rattle.goals.specs.Goals.{goal_of}

@@ -1,5 +1,4 @@
 -- `holds::end_held` meets its contract: the end scope and the caller's user are the model's test. Assumes nothing.
-use borrow.Author.Rules.{rules}
 use Rattle.model.specs.Words.{unpack}
 use Rattle.goals.specs.Goals.{goal_of}
 use Rattle.holds.proofs.Ways.{end_held_is}

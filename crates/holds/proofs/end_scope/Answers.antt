@@ -1,5 +1,4 @@
 -- `holds::end_scope` meets its contract: by where the walk stopped. Assumes nothing.
-use borrow.Author.Rules.{rules}
 use Rattle.holds.proofs.Ways.{ends_nowhere, ends_there, refused_end, root_end}
 use Rattle.holds.proofs.end_scope.Goals as goal
 

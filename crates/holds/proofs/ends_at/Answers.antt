@@ -1,5 +1,4 @@
 -- `holds::ends_at` meets its contract: the role is compared, then the place. Assumes nothing.
-use borrow.Author.Rules.{rules}
 use Rattle.rows.specs.Stands.{hold_row}
 use Rattle.goals.specs.Goals.{PlaceNamed, place_at}
 use Rattle.holds.proofs.Tests.{end_there, not_an_end}

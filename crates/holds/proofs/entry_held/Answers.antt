@@ -1,5 +1,4 @@
 -- `holds::entry_held` meets its contract: the entry scope and the caller's user are the model's test. Assumes nothing.
-use borrow.Author.Rules.{rules}
 use Rattle.model.specs.Words.{unpack}
 use Rattle.goals.specs.Goals.{goal_of}
 use Rattle.holds.proofs.Ways.{entry_held_is}

@@ -1,5 +1,4 @@
 -- `holds::entry_scope` meets its contract: by where the walk stopped. Assumes nothing.
-use borrow.Author.Rules.{rules}
 use Rattle.holds.proofs.Ways.{entry_nowhere, entry_there, refused_end, root_end}
 use Rattle.holds.proofs.entry_scope.Goals as goal
 

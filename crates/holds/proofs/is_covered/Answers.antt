@@ -1,6 +1,5 @@
 -- `holds::is_covered` meets its contract, case by case of the scope. Assumes nothing.
 use mathlib.Core.Path.{◌∙◌, ap, subst, sym}
-use borrow.Author.Rules.{rules}
 use Rattle.rows.specs.Stands.{hold_row}
 use Rattle.goals.specs.Goals.{PlaceNamed, place_at}
 use Rattle.holds.proofs.Tests.{inside_there, of_process_there}

@@ -1,5 +1,4 @@
 -- `holds::is_in_the_way` meets its contract: the hold is covered, and another user's. Assumes nothing.
-use borrow.Author.Rules.{rules}
 use Rattle.model.specs.Words.{unpack}
 use Rattle.rows.specs.Stands.{hold_row}
 use Rattle.holds.proofs.Tests.{way_covered, way_free}

@@ -1,5 +1,4 @@
 -- `holds::is_of_another` meets its contract: a free row is nobody's, and else the users decide. Assumes nothing.
-use borrow.Author.Rules.{rules}
 use Rattle.model.specs.Words.{unpack}
 use Rattle.rows.specs.Stands.{hold_row}
 use Rattle.holds.proofs.Tests.{free_of_nobody, used_of_another}

@@ -1,5 +1,4 @@
 -- `holds::may_be_covered` meets its contract: the directories are compared where there is one. Assumes nothing.
-use borrow.Author.Rules.{rules}
 use Rattle.rows.specs.Stands.{hold_row}
 use Rattle.holds.proofs.Tests.{elsewhere_asked, no_directory}
 use Rattle.holds.proofs.may_be_covered.Goals as goal

@@ -1,13 +1,11 @@
 -- `holds::others_hold` meets its contract: what is in the way from some row on is what is in the way at all. Assumes nothing.
-use mathlib.Core.Logic.{⊎_elim}
-use mathlib.Core.Bool.{Bool}
 use mathlib.Core.Path.{◌≡◌, refl, subst}
-use Prim.Native.Nat.{◌<◌, ℕ, ◌+◌, ◌*◌, ◌-◌, ◌≤◌}
+use Prim.Native.Nat.{◌<◌, ℕ, ◌+◌, ◌*◌}
 use native.Mathlib.Omega.{arith}
 use borrow.Author.Rules.{rules}
 use lib.ListN.{length, drop}
 use Rattle.model.specs.Lists.{any}
-use Rattle.model.specs.Tables.{Hold, hold_rows, no_hold}
+use Rattle.model.specs.Tables.{no_hold}
 use Rattle.model.specs.Words.{unpack}
 use Rattle.laws.proofs.Loops.{any_nowhere}
 use Rattle.rows.specs.Stands.{hold_row}

@@ -1,19 +1,11 @@
 -- `holds::others_hold` meets its contract: what is in the way from some row on is what is in the way at all. Assumes nothing.
-use mathlib.Core.Logic.{⊎_elim}
-use mathlib.Core.Bool.{Bool}
-use mathlib.Core.Path.{◌≡◌, refl, subst}
-use Prim.Native.Nat.{ℕ, ◌+◌, ◌*◌, ◌-◌, ◌≤◌}
-use native.Mathlib.Omega.{arith}
-use borrow.Author.Rules.{rules}
+use mathlib.Core.Path.{◌≡◌}
+use Prim.Native.Nat.{◌*◌, ◌-◌, ◌≤◌}
 use lib.ListN.{drop}
 use Rattle.model.specs.Lists.{any}
-use Rattle.model.specs.Tables.{Hold, hold_rows, no_hold}
+use Rattle.model.specs.Tables.{hold_rows}
 use Rattle.model.specs.Words.{unpack}
-use Rattle.laws.proofs.Loops.{any_nowhere}
-use Rattle.rows.specs.Stands.{hold_row}
-use Rattle.rows.proofs.Parts.{holds_full}
 use Rattle.holds.specs.Scopes.{in_the_way}
-use Rattle.holds.proofs.Tests.{any_met, any_missed, way_elsewhere}
 use Rattle.holds.proofs.others_hold.Given as goal
 
 abbrev pub invariant-loop-pair : goal.invariant-loop-pair

@@ -1,5 +1,4 @@
 -- `index::find_entry` meets its contract: the place's chain is gone down from its bucket's head. Assumes nothing.
-use borrow.Author.Rules.{rules}
 use Rattle.rows.specs.Blocks.{place_of}
 use Rattle.index.specs.Indexed.{row_found}
 use Rattle.index.proofs.Entries.{entry_descent, found_last}

@@ -1,10 +1,6 @@
 -- `index::index_entries` meets its contract: each used row is looked for among the rows before it, and then chained. Assumes nothing.
 use mathlib.Core.Bool.{false≢true}
-use mathlib.Core.Logic.{⊎_elim}
-use Prim.Native.Nat.{◌-◌}
-use borrow.Author.Rules.{rules}
-use Rattle.model.specs.Tables.{entry_rows}
-use Rattle.index.proofs.Entries.{row_named, entry_descent, Building, building_starts, building_past, building_more, building_twice, building_ends}
+use Rattle.index.proofs.Entries.{row_named, entry_descent, building_starts, building_past, building_more, building_twice, building_ends}
 use Rattle.index.proofs.index_entries.Goals as goal
 use Rattle.index.proofs.index_entries.Goals.{then-directory-ne0+else-last_at-ne0, else-directory-ne0}
 

@@ -1,11 +1,7 @@
 -- `index::last_at` meets its contract: rows of the chain are passed while they are at another place. Assumes nothing.
 use mathlib.Core.Path.{sym, ◌∙◌}
 use borrow.Author.Rules.{rules}
-use Rattle.model.specs.Tables.{at}
-use Rattle.model.specs.Words.{unpack}
-use Rattle.rows.specs.Blocks.{place_of}
-use Rattle.index.specs.Indexed.{place_bucket, entry_chains}
-use Rattle.index.proofs.Descents.{Going, going_starts, going_inside, going_found, going_down, going_on, going_ends}
+use Rattle.index.proofs.Descents.{going_starts, going_inside, going_found, going_down, going_on, going_ends}
 use Rattle.index.proofs.last_at.Goals as goal
 
 pub loop-found-init : goal.loop-found-init

@@ -1,6 +1,5 @@
 -- `index::node_found` meets its contract: a row that is told so is one less. Assumes nothing.
 use mathlib.Core.Path.{◌∙◌}
-use borrow.Author.Rules.{rules}
 use Rattle.index.proofs.Entries.{node_in_none, node_in_row}
 use Rattle.index.proofs.node_found.Goals as goal
 

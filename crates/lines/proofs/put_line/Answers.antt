@@ -1,5 +1,4 @@
 -- `lines::put_line` meets its contract: each word with its spaces, and the number's digits. Assumes nothing.
-use borrow.Author.Rules.{rules}
 use native.Mathlib.Omega.{arith}
 use Rattle.lines.proofs.LineBytes.{held_line, seen_line, done_line, refused_line, same_fits, puts_same}
 use Rattle.lines.proofs.put_line.Goals as goal

@@ -1,6 +1,5 @@
 -- `lines::put_line_around` meets its contract: four runs of bytes, one behind the other. Assumes nothing.
 use Rattle.lines.proofs.LineBytes.{place_fits, word_fits, number_fits, end_fits, puts_line}
-use borrow.Author.Rules.{rules}
 use Rattle.lines.proofs.put_line_around.Goals as goal
 
 pub put_digits-word_at-requires : goal.put_digits-word_at-requires

@@ -1,10 +1,7 @@
 -- `lines::put_text` meets its contract: after each turn the bytes passed stand in their place. Assumes nothing.
-use borrow.Author.Rules.{rules}
 use Prim.Native.Nat.{◌≤◌, ◌+◌, ◌-◌}
-use native.Mathlib.Omega.{arith}
 use lib.ListN.{length, take}
 use Rattle.lines.specs.Puts.{Puts}
-use Rattle.lines.proofs.Runs.{puts_none, puts_next, puts_whole, puts_length}
 use Rattle.lines.proofs.put_text.Given as goal
 
 abbrev pub invariant-loop-i : goal.invariant-loop-i

@@ -1,5 +1,4 @@
 -- `looks::check` meets its contract. Assumes nothing.
-use borrow.Author.Rules.{rules}
 use Rattle.model.specs.Calls.{check}
 use Rattle.looks.proofs.check.Goals as goal
 

@@ -1,5 +1,4 @@
 -- `looks::look` meets its contract. Assumes nothing.
-use borrow.Author.Rules.{rules}
 use Rattle.model.specs.Calls.{look}
 use Rattle.looks.proofs.look.Goals as goal
 

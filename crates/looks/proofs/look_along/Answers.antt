@@ -1,5 +1,4 @@
 -- `looks::look_along` meets its contract: refused on the way, or what stands behind the walk. Assumes nothing.
-use borrow.Author.Rules.{rules}
 use Rattle.model.specs.Calls.{look_at, looking}
 use Rattle.model.specs.Words.{unpack}
 use Rattle.reaching.proofs.Ways.{came, goes_on, refused_on_the_way}

@@ -1,5 +1,4 @@
 -- `looks::use_of` meets its contract. Assumes nothing.
-use borrow.Author.Rules.{rules}
 use Rattle.model.specs.Calls.{use_of}
 use Rattle.looks.proofs.use_of.Goals as goal
 

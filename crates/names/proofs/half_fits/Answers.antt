@@ -1,6 +1,5 @@
 -- `names::half_fits` meets its contract: both comparisons of the eight bytes. Assumes nothing.
 use mathlib.Core.Path.{sym, ap, ◌∙◌}
-use borrow.Author.Rules.{rules}
 use borrow.Author.Tests.{eq-eqb, ne_eqb}
 use lib.Dec.{eqb}
 use native.Mathlib.Omega.{arith}

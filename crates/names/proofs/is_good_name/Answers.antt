@@ -1,6 +1,5 @@
 -- `names::is_good_name` meets its contract. Assumes nothing.
 use mathlib.Core.Path.{◌∙◌}
-use borrow.Author.Rules.{rules}
 use native.Mathlib.Omega.{arith}
 use Rattle.laws.proofs.Each.{none, one}
 use Rattle.names.proofs.Fits.{no_length, too_long, one_dot, two_dots, good_is}

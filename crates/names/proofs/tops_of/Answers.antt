@@ -1,7 +1,6 @@
 -- `names::tops_of` meets its contract. Assumes nothing.
 use native.Mathlib.Omega.{arith}
 use native.Mathlib.Nat.{div-le_self}
-use borrow.Author.Rules.{rules}
 use Rattle.names.proofs.Eights.{tops_all, tops_some}
 use Rattle.names.proofs.tops_of.Goals as goal
 

@@ -1,6 +1,5 @@
 -- `names::words_fit` meets its contract: half by half. Assumes nothing.
 use mathlib.Core.Path.{sym, ap, ◌∙◌}
-use borrow.Author.Rules.{rules}
 use native.Mathlib.Omega.{arith}
 use lib.ListN.{get_or}
 use Rattle.laws.proofs.Bools.{not_true, not_false}

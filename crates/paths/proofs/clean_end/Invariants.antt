@@ -1,13 +1,9 @@
 -- `paths::clean_end` meets its contract. The loop's invariant: the clean bytes from `end` on end where those from `at` on do.
 -- Assumes nothing.
 use mathlib.Core.Path.{◌≡◌}
-use mathlib.Core.List.{List}
-use Prim.Native.Nat.{ℕ, ◌≤◌, ◌+◌, ◌-◌}
-use native.Mathlib.Omega.{arith}
+use Prim.Native.Nat.{◌≤◌, ◌+◌, ◌-◌}
 use lib.ListN.{length, drop}
 use Rattle.paths.specs.Split.{clean}
-use Rattle.paths.proofs.Clean.{clean_at_end, clean_at_stop, clean_at_byte}
-use Rattle.paths.proofs.Names.{zero_byte, slash_byte, other_byte}
 use Rattle.paths.proofs.clean_end.Given as goal
 
 abbrev pub invariant-loop-end : goal.invariant-loop-end

@@ -1,7 +1,6 @@
 -- `paths::is_dots` meets its contract. Assumes nothing.
 use mathlib.Core.Path.{sym}
 use Rattle.paths.proofs.Names.{dots_longer, dots_begin_otherwise, dots_one, dots_two}
-use borrow.Author.Rules.{rules}
 use Rattle.paths.proofs.is_dots.Goals as goal
 
 pub returns-then-name-gt2 : goal.returns-then-name-gt2

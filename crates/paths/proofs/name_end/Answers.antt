@@ -1,10 +1,6 @@
 -- `paths::name_end` meets its contract. The loop's invariant: the first part from `end` on ends where the one from `at` on does.
 -- Assumes nothing.
-use mathlib.Core.Path.{◌≡◌}
-use Prim.Native.Nat.{◌≤◌, ◌+◌, ◌-◌}
 use native.Mathlib.Omega.{arith}
-use lib.ListN.{length, drop}
-use Rattle.paths.specs.Split.{first_part}
 use Rattle.paths.proofs.Parts.{part_at_end, part_at_slash, part_at_byte}
 use Rattle.paths.proofs.name_end.Goals as goal
 

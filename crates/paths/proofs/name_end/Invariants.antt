@@ -2,10 +2,8 @@
 -- Assumes nothing.
 use mathlib.Core.Path.{◌≡◌}
 use Prim.Native.Nat.{◌≤◌, ◌+◌, ◌-◌}
-use native.Mathlib.Omega.{arith}
 use lib.ListN.{length, drop}
 use Rattle.paths.specs.Split.{first_part}
-use Rattle.paths.proofs.Parts.{part_at_end, part_at_slash, part_at_byte}
 use Rattle.paths.proofs.name_end.Given as goal
 
 abbrev pub invariant-loop-end : goal.invariant-loop-end

@@ -1,7 +1,6 @@
 -- `paths::next_name` meets its contract. Assumes nothing.
 use mathlib.Core.Path.{sym}
 use Rattle.paths.proofs.Positions.{next_at_end, next_at_last_slash, next_behind_slash, next_here, next_to_end}
-use borrow.Author.Rules.{rules}
 use Rattle.paths.proofs.next_name.Goals as goal
 
 pub returns-then-path-at : goal.returns-then-path-at

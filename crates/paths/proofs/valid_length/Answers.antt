@@ -2,7 +2,6 @@
 use mathlib.Core.Bool.{not}
 use mathlib.Core.Path.{sym, ap, ◌∙◌}
 use Rattle.paths.proofs.Names.{name_empty, name_longer, name_by_dots}
-use borrow.Author.Rules.{rules}
 use Rattle.paths.proofs.valid_length.Goals as goal
 
 pub returns-then-name-lt1 : goal.returns-then-name-lt1

@@ -3,7 +3,6 @@ use mathlib.Core.Path.{sym, ◌∙◌}
 use native.Mathlib.Omega.{arith}
 use Rattle.paths.proofs.Clean.{clean_whole, clean_short}
 use Rattle.paths.proofs.Names.{name_broken}
-use borrow.Author.Rules.{rules}
 use Rattle.paths.proofs.valid_name.Goals as goal
 
 pub returns-then-clean_end-name : goal.returns-then-clean_end-name

@@ -3,7 +3,6 @@ use mathlib.Core.Path.{sym, ap, ◌∙◌}
 use Rattle.model.specs.Lists.{all}
 use Rattle.model.specs.Paths.{valid_name}
 use Rattle.paths.proofs.Validity.{slash_alone, names_of_absolute, names_of_relative}
-use borrow.Author.Rules.{rules}
 use Rattle.paths.proofs.valid_names.Goals as goal
 
 pub returns-then-path-eq1 : goal.returns-then-path-eq1

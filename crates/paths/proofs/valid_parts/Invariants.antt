@@ -1,17 +1,10 @@
 -- `paths::valid_parts` meets its contract. The loop's invariant: the parts from `at` on are valid just if all are.
 -- Assumes nothing.
-use mathlib.Core.Path.{◌≡◌, refl, sym, ◌∙◌}
-use mathlib.Core.Bool.{true}
-use mathlib.Core.List.{List}
-use Prim.Native.Nat.{ℕ, ◌≤◌, ◌<◌, ◌+◌, ◌-◌}
-use native.Mathlib.Omega.{arith}
-use lib.ListN.{length, get_or, take, drop}
-use borrow.Author.Tests.{not-true, not-false}
+use mathlib.Core.Path.{◌≡◌}
+use Prim.Native.Nat.{◌≤◌, ◌+◌, ◌-◌}
+use lib.ListN.{length, drop}
 use Rattle.model.specs.Lists.{all}
-use Rattle.model.specs.Paths.{slash, parts, name_byte, valid_name}
-use Rattle.paths.specs.Split.{first_part}
-use Rattle.paths.proofs.Clean.{clean_inside, taken_bytes, ends_part, broken_part, last_part}
-use Rattle.paths.proofs.Positions.{part_fails, part_goes_on}
+use Rattle.model.specs.Paths.{parts, valid_name}
 use Rattle.paths.proofs.valid_parts.Given as goal
 
 abbrev pub invariant-loop-start : goal.invariant-loop-start

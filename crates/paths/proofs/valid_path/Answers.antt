@@ -1,7 +1,6 @@
 -- `paths::valid_path` meets its contract. Assumes nothing.
 use mathlib.Core.Path.{sym, ◌∙◌}
 use Rattle.paths.proofs.Validity.{path_empty, path_longer, path_relative, path_by_names}
-use borrow.Author.Rules.{rules}
 use Rattle.paths.proofs.valid_path.Goals as goal
 
 pub returns-then-path-lt1 : goal.returns-then-path-lt1

@@ -1,7 +1,6 @@
 -- `paths::valid_target` meets its contract. Assumes nothing.
 use mathlib.Core.Path.{sym, ◌∙◌}
 use Rattle.paths.proofs.Validity.{target_empty, target_longer, target_by_names}
-use borrow.Author.Rules.{rules}
 use Rattle.paths.proofs.valid_target.Goals as goal
 
 pub returns-then-target-lt1 : goal.returns-then-target-lt1

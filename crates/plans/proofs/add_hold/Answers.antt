@@ -1,5 +1,4 @@
 -- `plans::add_hold` meets its contract: the lowest free row is written. Assumes nothing.
-use borrow.Author.Rules.{rules}
 use Rattle.plans.proofs.Planning.{hold_added, no_row_free}
 use Rattle.plans.proofs.add_hold.Goals as goal
 

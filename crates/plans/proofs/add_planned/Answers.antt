@@ -1,8 +1,7 @@
 -- `plans::add_planned` meets its contract: the rows left to add give what all of them give. Assumes nothing.
-use Prim.Native.Nat.{◌-◌, ◌≤◌}
 use native.Mathlib.Omega.{arith}
 use borrow.Author.Rules.{rules}
-use Rattle.plans.proofs.Planning.{LeftToAdd, add_begin, add_end, add_on, fine_row}
+use Rattle.plans.proofs.Planning.{add_begin, add_end, add_on, fine_row}
 use Rattle.plans.proofs.add_planned.Goals as goal
 
 pub loop-i-init : goal.loop-i-init

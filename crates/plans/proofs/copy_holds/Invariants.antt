@@ -1,9 +1,7 @@
 -- `plans::copy_holds` meets its contract: the rows left to copy give what all of them give. Assumes nothing.
 use Prim.Native.Nat.{◌-◌, ◌≤◌}
-use native.Mathlib.Omega.{arith}
-use borrow.Author.Rules.{rules}
 use Rattle.model.specs.Tables.{hold_rows}
-use Rattle.plans.proofs.Copying.{LeftToCopy, copy_begin, copy_end, copy_on}
+use Rattle.plans.proofs.Copying.{LeftToCopy}
 use Rattle.plans.proofs.copy_holds.Given as goal
 
 abbrev pub invariant-loop-i : goal.invariant-loop-i

@@ -1,6 +1,5 @@
 -- `plans::copy_row` meets its contract: the hold is copied where it is the parent's. Assumes nothing.
 use native.Mathlib.Omega.{arith}
-use borrow.Author.Rules.{rules}
 use Rattle.plans.proofs.Copying.{copy_fine, row_copied, row_passed}
 use Rattle.plans.proofs.copy_row.Goals as goal
 

@@ -1,10 +1,7 @@
 -- `plans::is_planned` meets its contract: what the rows from i on give is what all give. Assumes nothing.
-use mathlib.Core.Path.{◌≡◌, refl}
-use Prim.Native.Nat.{◌-◌, ◌≤◌}
+use mathlib.Core.Path.{refl}
 use native.Mathlib.Omega.{arith}
 use borrow.Author.Rules.{rules}
-use lib.ListN.{drop}
-use Rattle.model.specs.Lists.{any}
 use Rattle.model.specs.Sound.{same_hold}
 use Rattle.laws.proofs.Loops.{any_found, any_nowhere, any_onward}
 use Rattle.rows.specs.Rows.{hold_of}

@@ -1,5 +1,4 @@
 -- `plans::lacks_room` meets its contract: nothing is lacking for no hold, and else the free rows are fewer than the plan's. Assumes nothing.
-use borrow.Author.Rules.{rules}
 use Rattle.model.specs.Words.{unpack}
 use Rattle.plans.proofs.Planning.{room_for_none, room_is}
 use Rattle.plans.proofs.lacks_room.Goals as goal

@@ -1,12 +1,7 @@
 -- `plans::plan_elements` meets its contract: the plan after i elements is what is lacking of them. Assumes nothing.
 use Prim.Native.Nat.{◌-◌, ◌≤◌}
-use native.Mathlib.Omega.{arith}
-use borrow.Author.Rules.{rules}
-use lib.ListN.{get_or, take}
-use Rattle.model.specs.Tables.{element_role}
+use lib.ListN.{take}
 use Rattle.model.specs.Words.{unpack}
-use Rattle.goals.specs.Goals.{blank}
-use Rattle.plans.proofs.Planning.{element_named, element_used, gather_end, gather_step, plan_none, taken_few, wanted_fine}
 use Rattle.plans.specs.Plans.{PlanFor, element_holds}
 use Rattle.plans.proofs.plan_elements.Given as goal
 

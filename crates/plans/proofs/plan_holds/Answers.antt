@@ -1,6 +1,5 @@
 -- `plans::plan_holds` meets its contract: the elements, then the end entry. Assumes nothing.
 use native.Mathlib.Omega.{arith}
-use borrow.Author.Rules.{rules}
 use Rattle.model.specs.Tables.{end_role}
 use Rattle.model.specs.Words.{unpack}
 use Rattle.plans.proofs.Planning.{elements_few, end_used, plan_with_end, plan_without_end, wanted_fine}

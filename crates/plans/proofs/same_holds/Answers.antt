@@ -1,5 +1,4 @@
 -- `plans::same_holds` meets its contract: process, role and directory are compared, then the name. Assumes nothing.
-use borrow.Author.Rules.{rules}
 use Rattle.plans.proofs.Planning.{names_decide, other_directory, other_process, other_role}
 use Rattle.plans.proofs.same_holds.Goals as goal
 

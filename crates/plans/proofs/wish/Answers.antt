@@ -1,5 +1,4 @@
 -- `plans::wish` meets its contract: a hold that is there or planned is not planned again. Assumes nothing.
-use borrow.Author.Rules.{rules}
 use Rattle.model.specs.Words.{unpack}
 use Rattle.plans.proofs.Planning.{held_before, planned_before, planned_new}
 use Rattle.plans.proofs.wish.Goals as goal

@@ -1,5 +1,4 @@
 -- `process_index::find_in_index` meets its contract: the chain of the number's bucket is gone down. Assumes nothing.
-use borrow.Author.Rules.{rules}
 use Rattle.process_index.proofs.Processes.{number_descent}
 use Rattle.process_index.proofs.find_in_index.Goals as goal
 

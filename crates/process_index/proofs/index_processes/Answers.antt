@@ -1,9 +1,6 @@
 -- `process_index::index_processes` meets its contract: each used row is looked for among the rows before it, and then chained. Assumes nothing.
 use mathlib.Core.Bool.{false≢true}
-use Prim.Native.Nat.{◌-◌}
-use borrow.Author.Rules.{rules}
-use Rattle.model.specs.Tables.{process_rows}
-use Rattle.process_index.proofs.Processes.{number_descent, Building, building_starts, building_past, building_more, building_twice, building_ends}
+use Rattle.process_index.proofs.Processes.{number_descent, building_starts, building_past, building_more, building_twice, building_ends}
 use Rattle.process_index.proofs.index_processes.Goals as goal
 use Rattle.process_index.proofs.index_processes.Goals.{then-number-ne0+else-last_of-ne0, else-number-ne0}
 

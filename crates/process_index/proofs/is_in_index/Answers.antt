@@ -1,5 +1,4 @@
 -- `process_index::is_in_index` meets its contract: a row is found just where the process is listed. Assumes nothing.
-use borrow.Author.Rules.{rules}
 use Rattle.process_index.proofs.Processes.{found_decides}
 use Rattle.process_index.proofs.is_in_index.Goals as goal
 

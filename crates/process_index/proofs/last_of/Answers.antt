@@ -1,12 +1,9 @@
 -- `process_index::last_of` meets its contract: rows of the chain are passed while they have another number. Assumes nothing.
 use mathlib.Core.Path.{sym, ◌∙◌}
-use Prim.Native.Nat.{◌%◌}
 use borrow.Author.Rules.{rules}
 use borrow.Author.Tests.{eq-eqb, ne_eqb}
 use Rattle.model.specs.Tables.{is_process}
-use Rattle.model.specs.Words.{unpack}
-use Rattle.index.proofs.Descents.{Going, going_starts, going_inside, going_found, going_down, going_on, going_ends}
-use Rattle.process_index.specs.Processes.{process_buckets, process_chains}
+use Rattle.index.proofs.Descents.{going_starts, going_inside, going_found, going_down, going_on, going_ends}
 use Rattle.process_index.proofs.last_of.Goals as goal
 
 pub loop-found-init : goal.loop-found-init

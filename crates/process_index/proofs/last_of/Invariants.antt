@@ -1,11 +1,8 @@
 -- `process_index::last_of` meets its contract: rows of the chain are passed while they have another number. Assumes nothing.
-use mathlib.Core.Path.{sym, ◌∙◌}
 use Prim.Native.Nat.{◌%◌}
-use borrow.Author.Rules.{rules}
-use borrow.Author.Tests.{eq-eqb, ne_eqb}
 use Rattle.model.specs.Tables.{is_process}
 use Rattle.model.specs.Words.{unpack}
-use Rattle.index.proofs.Descents.{Going, going_starts, going_inside, going_found, going_down, going_on, going_ends}
+use Rattle.index.proofs.Descents.{Going}
 use Rattle.process_index.specs.Processes.{process_buckets, process_chains}
 use Rattle.process_index.proofs.last_of.Given as goal
 

@@ -1,5 +1,4 @@
 -- `process_index::user_in_index` meets its contract: the last row of the number is its only one. Assumes nothing.
-use borrow.Author.Rules.{rules}
 use Rattle.process_index.proofs.Processes.{row_low, no_user, user_found, no_process_user}
 use Rattle.process_index.proofs.user_in_index.Goals as goal
 

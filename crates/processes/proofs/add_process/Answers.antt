@@ -1,5 +1,4 @@
 -- `processes::add_process` meets its contract: the lowest free row is written. Assumes nothing.
-use borrow.Author.Rules.{rules}
 use Rattle.processes.proofs.Rows.{process_added, process_not_added}
 use Rattle.processes.proofs.add_process.Goals as goal
 

@@ -1,5 +1,4 @@
 -- `processes::drop_if_process` meets its contract: the row is cleared where it is the process's. Assumes nothing.
-use borrow.Author.Rules.{rules}
 use Rattle.processes.proofs.Rows.{process_row_dropped, process_row_left}
 use Rattle.processes.proofs.drop_if_process.Goals as goal
 

@@ -1,11 +1,9 @@
 -- `processes::drop_process` meets its contract: the rows left to drop give what the whole drop gives. Assumes nothing.
 use Prim.Native.Nat.{◌-◌, ◌≤◌}
-use native.Mathlib.Omega.{arith}
-use borrow.Author.Rules.{rules}
 use Rattle.model.specs.Calls.{drop_process}
 use Rattle.model.specs.Words.{unpack}
 use Rattle.model.specs.Tables.{with_processes, process_rows}
-use Rattle.processes.proofs.Rows.{dropping_process, process_begin, process_end, process_on}
+use Rattle.processes.proofs.Rows.{dropping_process}
 use Rattle.holds.proofs.Towards.{Towards}
 use Rattle.processes.proofs.drop_process.Given as goal
 

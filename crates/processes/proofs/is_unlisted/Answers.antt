@@ -1,7 +1,6 @@
 -- `processes::is_unlisted` meets its contract. Assumes nothing.
 use mathlib.Core.Bool.{not}
 use mathlib.Core.Path.{ap}
-use borrow.Author.Rules.{rules}
 use Rattle.model.specs.Calls.{unlisted}
 use Rattle.processes.proofs.is_unlisted.Goals as goal
 

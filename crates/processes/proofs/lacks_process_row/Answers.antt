@@ -1,5 +1,4 @@
 -- `processes::lacks_process_row` meets its contract: the search ends behind the last row. Assumes nothing.
-use borrow.Author.Rules.{rules}
 use Rattle.processes.proofs.Rows.{no_process_row}
 use Rattle.processes.proofs.lacks_process_row.Goals as goal
 

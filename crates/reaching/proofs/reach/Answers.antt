@@ -1,5 +1,4 @@
 -- `reaching::reach` meets its contract: 4, or the walk. Assumes nothing.
-use borrow.Author.Rules.{rules}
 use Rattle.model.specs.Words.{unpack}
 use Rattle.records.specs.Reading.{part_of}
 use Rattle.search.proofs.Callers.{told_caller, told_listed, told_unlisted}

@@ -1,7 +1,6 @@
 -- `reaching::reach_both` meets its contract: the first path's refusal, or the second walk. Assumes nothing.
 use mathlib.Core.Path.{ap, sym, ◌∙◌}
 use mathlib.Core.Bool.{false}
-use borrow.Author.Rules.{rules}
 use Rattle.model.specs.Calls.{reaching}
 use Rattle.model.specs.Words.{unpack}
 use Rattle.records.specs.Reading.{part_of}

@@ -1,7 +1,6 @@
 -- `reaching::walk_part` meets its contract. Assumes nothing.
 use mathlib.Core.Path.{◌∙◌, ap}
 use native.Mathlib.Omega.{arith}
-use borrow.Author.Rules.{rules}
 use Rattle.model.specs.Walk.{walk}
 use Rattle.model.specs.Words.{unpack}
 use Rattle.laws.proofs.Words.{sound_has_sound_rows}

@@ -1,6 +1,5 @@
 -- `reaching::way_behind` meets its contract. Assumes nothing.
 use mathlib.Core.Path.{ap, sym}
-use borrow.Author.Rules.{rules}
 use Rattle.reaching.specs.Ways.{way_behind}
 use Rattle.reaching.proofs.way_behind.Goals as goal
 

@@ -1,10 +1,10 @@
 -- `records::copy_to` meets its contract. The loop's invariant: the first `i` bytes are copied, and nothing else has changed.
 -- Assumes nothing.
-use mathlib.Core.Path.{◌≡◌, refl, ap, ◌∙◌}
-use Prim.Native.Nat.{ℕ, ◌-◌, ◌≤◌}
+use mathlib.Core.Path.{refl, ap, ◌∙◌}
+use Prim.Native.Nat.{ℕ}
 use native.Mathlib.Nat.{le_antisymm}
 use native.Mathlib.Omega.{arith}
-use lib.ListN.{length, length-set}
+use lib.ListN.{length-set}
 use lib.Seq.{paste, paste-zero}
 use Rattle.laws.proofs.Copies.{copy_onward}
 use Rattle.records.proofs.copy_to.Goals as goal

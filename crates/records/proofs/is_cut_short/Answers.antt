@@ -1,6 +1,5 @@
 -- `records::is_cut_short` meets its contract. Assumes nothing.
 use mathlib.Core.Path.{ap, sym}
-use borrow.Author.Rules.{rules}
 use Rattle.records.specs.Reading.{cut_short}
 use Rattle.records.proofs.is_cut_short.Goals as goal
 

@@ -1,8 +1,5 @@
 -- `records::pack` meets its contract. Assumes nothing.
-use mathlib.Core.List.{List}
-use Prim.Native.Nat.{ℕ}
 use native.Mathlib.Omega.{arith}
-use Rattle.fields.specs.declared.Numbers.{Numbers}
 use Rattle.records.proofs.Packings.{numbers, fault_packs, head_fits, full_packs, record_packs}
 use borrow.Author.Rules.{rules}
 use Rattle.records.proofs.pack.Goals as goal

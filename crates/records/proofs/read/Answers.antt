@@ -1,11 +1,8 @@
 -- `records::read` meets its contract. Assumes nothing.
 use mathlib.Core.Path.{sym}
-use mathlib.Core.List.{List}
-use Prim.Native.Nat.{ℕ}
 use native.Mathlib.Omega.{arith}
 use Rattle.model.specs.Words.{bits}
-use Rattle.records.proofs.Readings.{Found, no_head, no_paths, fields_refused, fields_accepted}
-use borrow.Author.Rules.{rules}
+use Rattle.records.proofs.Readings.{no_head, no_paths, fields_refused, fields_accepted}
 use Rattle.records.proofs.read.Goals as goal
 
 pub returns-then-bytes-lt-HEAD_LENGTH : goal.returns-then-bytes-lt-HEAD_LENGTH

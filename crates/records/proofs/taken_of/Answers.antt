@@ -1,6 +1,5 @@
 -- `records::taken_of` meets its contract. Assumes nothing.
 use mathlib.Core.Path.{ap, sym}
-use borrow.Author.Rules.{rules}
 use Rattle.records.specs.Reading.{taken_of}
 use Rattle.records.proofs.taken_of.Goals as goal
 

@@ -1,6 +1,5 @@
 -- `records::write_record` meets its contract. Assumes nothing.
 use Rattle.records.proofs.Packings.{record_written}
-use borrow.Author.Rules.{rules}
 use Rattle.records.proofs.write_record.Goals as goal
 
 pub returns : goal.returns

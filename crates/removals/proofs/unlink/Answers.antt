@@ -1,6 +1,5 @@
 -- `removals::unlink` meets its contract: refused on the way, or what stands behind the walk. Assumes nothing.
 use mathlib.Core.Bool.{false}
-use borrow.Author.Rules.{rules}
 use Rattle.model.specs.Calls.{unlink, unlink_at}
 use Rattle.model.specs.Words.{unpack}
 use Rattle.reaching.proofs.Ways.{came, goes_on, refused_on_the_way}

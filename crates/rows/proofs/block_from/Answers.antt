@@ -1,7 +1,6 @@
 -- `rows::block_from` meets its contract: the length and the bytes, four to a word. Assumes nothing.
 use mathlib.Core.Path.{◌∙◌, sym}
 use native.Mathlib.Omega.{arith}
-use borrow.Author.Rules.{rules}
 use lib.ListN.{drop, length-drop, take}
 use lib.Seq.{length-take-le}
 use Rattle.rows.proofs.Bytes.{block_made, first_word}

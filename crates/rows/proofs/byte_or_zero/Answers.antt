@@ -1,7 +1,6 @@
 -- `rows::byte_or_zero` meets its contract: a byte of the name, or the filling behind it. Assumes nothing.
 use mathlib.Core.Path.{◌∙◌, sym}
 use native.Mathlib.Omega.{arith}
-use borrow.Author.Rules.{rules}
 use lib.ListN.{get_or-eq_default, drop, length-take, take}
 use lib.Seq.{get_or-drop, get_or-take}
 use Rattle.rows.proofs.byte_or_zero.Goals as goal

@@ -1,12 +1,9 @@
 -- `rows::bytes_at` meets its contract: what is left to store gives the whole. Assumes nothing.
-use mathlib.Core.Path.{◌∙◌, ◌≡◌, sym}
+use mathlib.Core.Path.{◌≡◌}
 use Prim.Native.Nat.{◌*◌, ◌-◌, ◌≤◌}
-use native.Mathlib.Omega.{arith}
-use borrow.Author.Rules.{rules}
-use lib.ListN.{drop, length-drop, length-take, take}
-use lib.Seq.{get_or-drop, get_or-take, length-take-le, sets}
-use Rattle.model.specs.Words.{bits, bytes}
-use Rattle.rows.proofs.Bytes.{bytes_end, bytes_start, bytes_step}
+use lib.ListN.{drop, take}
+use lib.Seq.{sets}
+use Rattle.model.specs.Words.{bytes}
 use Rattle.rows.specs.Blocks.{target_words}
 use Rattle.rows.proofs.bytes_at.Given as goal
 

@@ -1,6 +1,5 @@
 -- `rows::count_in` meets its contract: the ten bits above the zero bits of the row's first word. Assumes nothing.
 use mathlib.Core.Path.{◌∙◌}
-use borrow.Author.Rules.{rules}
 use Rattle.rows.proofs.Fields.{node_count_is}
 use Rattle.rows.proofs.count_in.Goals as goal
 

@@ -1,6 +1,5 @@
 -- `rows::entry_directory` meets its contract: the upper half of the row's first word. Assumes nothing.
 use mathlib.Core.Path.{◌∙◌}
-use borrow.Author.Rules.{rules}
 use Rattle.rows.proofs.Fields.{entry_directory_is}
 use Rattle.rows.proofs.entry_directory.Goals as goal
 

@@ -1,6 +1,5 @@
 -- `rows::entry_name` meets its contract: the four words behind the row's first. Assumes nothing.
 use mathlib.Core.Path.{◌∙◌}
-use borrow.Author.Rules.{rules}
 use Rattle.rows.proofs.Fields.{entry_name_is}
 use Rattle.rows.proofs.entry_name.Goals as goal
 

@@ -1,6 +1,5 @@
 -- `rows::entry_node` meets its contract: the lower half of the row's first word. Assumes nothing.
 use mathlib.Core.Path.{◌∙◌}
-use borrow.Author.Rules.{rules}
 use Rattle.rows.proofs.Fields.{entry_node_is}
 use Rattle.rows.proofs.entry_node.Goals as goal
 

@@ -1,5 +1,4 @@
 -- `rows::four_bytes` meets its contract: four bytes of the name. Assumes nothing.
-use borrow.Author.Rules.{rules}
 use lib.ListN.{drop, take}
 use Rattle.rows.proofs.Bytes.{four_joined}
 use Rattle.rows.proofs.four_bytes.Goals as goal

@@ -1,6 +1,5 @@
 -- `rows::hold_name` meets its contract: the four words behind the row's first. Assumes nothing.
 use mathlib.Core.Path.{◌∙◌}
-use borrow.Author.Rules.{rules}
 use Rattle.rows.proofs.Fields.{hold_name_is}
 use Rattle.rows.proofs.hold_name.Goals as goal
 

@@ -1,6 +1,5 @@
 -- `rows::hold_process` meets its contract: the lower half of the row's first word. Assumes nothing.
 use mathlib.Core.Path.{◌∙◌}
-use borrow.Author.Rules.{rules}
 use Rattle.rows.proofs.Fields.{hold_process_is}
 use Rattle.rows.proofs.hold_process.Goals as goal
 

@@ -1,6 +1,5 @@
 -- `rows::hold_role` meets its contract: the top two bits of the row's last word. Assumes nothing.
 use mathlib.Core.Path.{◌∙◌}
-use borrow.Author.Rules.{rules}
 use Rattle.rows.proofs.Fields.{hold_role_is}
 use Rattle.rows.proofs.hold_role.Goals as goal
 

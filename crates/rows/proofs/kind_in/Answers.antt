@@ -1,6 +1,5 @@
 -- `rows::kind_in` meets its contract: the top two bits of the row's first word. Assumes nothing.
 use mathlib.Core.Path.{◌∙◌}
-use borrow.Author.Rules.{rules}
 use Rattle.rows.proofs.Fields.{node_kind_is}
 use Rattle.rows.proofs.kind_in.Goals as goal
 

@@ -2,7 +2,6 @@
 use mathlib.Core.Logic.{inl, inr}
 use mathlib.Core.Path.{◌∙◌, ap, sym}
 use native.Mathlib.Omega.{arith}
-use borrow.Author.Rules.{rules}
 use Rattle.model.specs.Tables.{Node}
 use Rattle.model.specs.Words.{unpack}
 use Rattle.rows.proofs.Fields.{no_such_node, node_in_row}

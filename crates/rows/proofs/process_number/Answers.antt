@@ -1,6 +1,5 @@
 -- `rows::process_number` meets its contract: the upper half of the row's word. Assumes nothing.
 use mathlib.Core.Path.{◌∙◌}
-use borrow.Author.Rules.{rules}
 use Rattle.rows.proofs.Fields.{process_number_is}
 use Rattle.rows.proofs.process_number.Goals as goal
 

@@ -1,6 +1,5 @@
 -- `rows::process_user` meets its contract: the lower half of the row's word. Assumes nothing.
 use mathlib.Core.Path.{◌∙◌}
-use borrow.Author.Rules.{rules}
 use Rattle.rows.proofs.Fields.{process_user_is}
 use Rattle.rows.proofs.process_user.Goals as goal
 

@@ -1,6 +1,5 @@
 -- `rows::target_in` meets its contract: the 16 words behind the row's first. Assumes nothing.
 use mathlib.Core.Path.{◌∙◌}
-use borrow.Author.Rules.{rules}
 use Rattle.rows.proofs.Bytes.{target_bytes_are, target_made}
 use Rattle.rows.specs.Stands.{node_row}
 use Rattle.rows.proofs.target_in.Goals as goal

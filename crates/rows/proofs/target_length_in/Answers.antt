@@ -1,6 +1,5 @@
 -- `rows::target_length_in` meets its contract: the seven bits below the kind. Assumes nothing.
 use mathlib.Core.Path.{◌∙◌}
-use borrow.Author.Rules.{rules}
 use Rattle.rows.proofs.Fields.{target_length_is}
 use Rattle.rows.proofs.target_length_in.Goals as goal
 

@@ -6,7 +6,6 @@ use Rattle.model.specs.Records.{keeps_entries, row_of}
 use Rattle.model.specs.declared.Answer.{Answer}
 use Rattle.invariants.specs.Accepts.{accepts}
 use Rattle.runs.specs.Tested.{leaves_entries}
-use borrow.Author.Rules.{rules}
 use Rattle.runs.proofs.leaves_entries.Goals as goal
 
 keeper : (call : ℕ) (a : Answer) {k : Bool} → k ≡ keeps_entries (row_of call).effect → k ≡ true → true ≡ leaves_entries call a

@@ -1,8 +1,6 @@
 -- `runs::serve_call` meets its contract: the call, and the index anew where entries were written. Assumes nothing.
 use mathlib.Core.Path.{sym, ◌∙◌}
-use Rattle.laws.proofs.Bools.{not_false}
 use Rattle.runs.proofs.Keeping.{sound_after, index_after}
-use borrow.Author.Rules.{rules}
 use Rattle.runs.proofs.serve_call.Goals as goal
 
 pub dispatch-answer-requires : goal.dispatch-answer-requires

@@ -1,11 +1,9 @@
 -- `runs::serve_found` meets its contract: 1, what reading found, or the call. Assumes nothing.
 use mathlib.Core.Path.{refl, sym, ◌∙◌}
 use native.Mathlib.Omega.{arith}
-use Rattle.laws.proofs.Bools.{not_false}
 use Rattle.laws.proofs.Each.{each_by_place}
 use Rattle.reaching.proofs.Judging.{judged_broken, judged_call, judged_unsound}
 use Rattle.runs.proofs.Keeping.{tested_as}
-use borrow.Author.Rules.{rules}
 use mathlib.Core.Path.{ap}
 use mathlib.Core.Bool.{not}
 use Rattle.runs.proofs.serve_found.Goals as goal

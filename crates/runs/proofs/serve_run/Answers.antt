@@ -1,10 +1,7 @@
 -- `runs::serve_run` meets its contract: what was done and what is left give what the whole run gives. Assumes nothing.
 use mathlib.Core.Path.{sym, ◌∙◌}
-use Prim.Native.Nat.{◌-◌}
 use native.Mathlib.Omega.{arith}
-use lib.ListN.{length}
-use Rattle.runs.proofs.Onward.{Going, going_starts, next_within, stops_cut, stops_full, went_on}
-use borrow.Author.Rules.{rules}
+use Rattle.runs.proofs.Onward.{going_starts, next_within, stops_cut, stops_full, went_on}
 use Rattle.model.specs.Answers.{answer_slot}
 use Rattle.runs.proofs.serve_run.Goals as goal
 

@@ -4,7 +4,6 @@ use Rattle.records.specs.Reading.{taken_of}
 use Rattle.records.proofs.ThereAndBack.{reading_takes}
 use Rattle.reaching.proofs.Judging.{judged_short}
 use Rattle.service.proofs.Verdicts.{serves_by}
-use borrow.Author.Rules.{rules}
 use Rattle.runs.proofs.serve_tested.Goals as goal
 
 pub returns-then-is_cut_short : goal.returns-then-is_cut_short

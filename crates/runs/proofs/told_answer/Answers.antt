@@ -1,7 +1,6 @@
 -- `runs::told_answer` meets its contract: each arm tells its word. Assumes nothing.
 use mathlib.Core.Path.{◌≡◌}
 use Prim.Native.Nat.{ℕ}
-use borrow.Author.Rules.{rules}
 use Rattle.model.specs.Answers.{answer_number, number_of, word_number}
 use Rattle.model.specs.declared.Answer.{Answer}
 use Rattle.runs.proofs.told_answer.Goals as goal

@@ -1,5 +1,4 @@
 -- `search::entry_is_at` meets its contract: the directory is compared, then the name. Assumes nothing.
-use borrow.Author.Rules.{rules}
 use Rattle.model.specs.Tables.{at}
 use Rattle.rows.proofs.Fields.{entry_row_fits}
 use Rattle.rows.specs.Stands.{entry_row}

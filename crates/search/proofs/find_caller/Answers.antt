@@ -1,6 +1,5 @@
 -- `search::find_caller` meets its contract: the row found is one of the table's, and has the user. Assumes nothing.
 use native.Mathlib.Omega.{arith}
-use borrow.Author.Rules.{rules}
 use Rattle.search.proofs.Callers.{caller_row, unlisted_row}
 use Rattle.search.proofs.find_caller.Goals as goal
 

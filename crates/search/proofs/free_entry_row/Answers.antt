@@ -1,13 +1,10 @@
 -- `search::free_entry_row` meets its contract: rows are passed while they are used. Assumes nothing.
-use mathlib.Core.Path.{◌∙◌, ◌≡◌, refl, sym}
-use Prim.Native.Nat.{◌-◌, ◌≤◌}
+use mathlib.Core.Path.{◌∙◌, refl, sym}
 use native.Mathlib.Omega.{arith}
 use borrow.Author.Rules.{rules}
 use borrow.Author.Tests.{eq-eqb, ne_eqb}
-use lib.ListN.{drop}
 use Rattle.laws.proofs.Loops.{first_found, first_nowhere, first_onward}
-use Rattle.model.specs.Lists.{first}
-use Rattle.model.specs.Tables.{free_entry, no_entry, entry_rows}
+use Rattle.model.specs.Tables.{free_entry, no_entry}
 use Rattle.model.specs.Words.{unpack}
 use Rattle.rows.proofs.Parts.{entries_full}
 use Rattle.search.proofs.free_entry_row.Goals as goal

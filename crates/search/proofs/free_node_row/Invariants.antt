@@ -1,15 +1,10 @@
 -- `search::free_node_row` meets its contract: rows are passed while they are used. Assumes nothing.
-use mathlib.Core.Path.{◌∙◌, ◌≡◌, refl, sym}
+use mathlib.Core.Path.{◌≡◌}
 use Prim.Native.Nat.{◌-◌, ◌≤◌}
-use native.Mathlib.Omega.{arith}
-use borrow.Author.Rules.{rules}
-use borrow.Author.Tests.{eq-eqb, ne_eqb}
 use lib.ListN.{drop}
-use Rattle.laws.proofs.Loops.{first_found, first_nowhere, first_onward}
 use Rattle.model.specs.Lists.{first}
-use Rattle.model.specs.Tables.{free_node, no_node, node_rows}
+use Rattle.model.specs.Tables.{free_node, node_rows}
 use Rattle.model.specs.Words.{unpack}
-use Rattle.rows.proofs.Parts.{nodes_full}
 use Rattle.search.proofs.free_node_row.Given as goal
 
 abbrev pub invariant-loop-row : goal.invariant-loop-row

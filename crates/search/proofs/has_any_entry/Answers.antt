@@ -1,15 +1,12 @@
 -- `search::has_any_entry` meets its contract: rows are passed while they are in other directories. Assumes nothing.
-use mathlib.Core.Path.{◌∙◌, ◌≡◌, refl, sym}
-use Prim.Native.Nat.{◌-◌, ◌≤◌}
+use mathlib.Core.Path.{◌∙◌, refl, sym}
 use native.Mathlib.Omega.{arith}
 use borrow.Author.Rules.{rules}
 use borrow.Author.Tests.{eq-eqb, ne_eqb}
 use lib.Dec.{eqb}
-use lib.ListN.{drop}
 use Rattle.laws.proofs.Loops.{any_found, any_nowhere, any_onward}
 use Rattle.model.specs.Calls.{has_entries}
-use Rattle.model.specs.Lists.{any}
-use Rattle.model.specs.Tables.{no_entry, entry_rows}
+use Rattle.model.specs.Tables.{no_entry}
 use Rattle.model.specs.Words.{unpack}
 use Rattle.rows.proofs.Parts.{entries_full}
 use Rattle.search.proofs.has_any_entry.Goals as goal

@@ -1,13 +1,10 @@
 -- `search::has_hold` meets its contract: rows are passed while they are other holds. Assumes nothing.
-use mathlib.Core.Path.{◌∙◌, ◌≡◌, refl, sym}
-use Prim.Native.Nat.{◌-◌, ◌≤◌}
+use mathlib.Core.Path.{◌∙◌, refl, sym}
 use native.Mathlib.Omega.{arith}
 use borrow.Author.Rules.{rules}
-use lib.ListN.{drop}
 use Rattle.laws.proofs.Loops.{any_found, any_nowhere, any_onward}
-use Rattle.model.specs.Lists.{any}
 use Rattle.model.specs.Sound.{same_hold}
-use Rattle.model.specs.Tables.{no_hold, hold_rows}
+use Rattle.model.specs.Tables.{no_hold}
 use Rattle.model.specs.Words.{unpack}
 use Rattle.rows.proofs.Parts.{holds_full}
 use Rattle.rows.specs.Rows.{hold_of}

@@ -1,15 +1,11 @@
 -- `search::has_hold` meets its contract: rows are passed while they are other holds. Assumes nothing.
-use mathlib.Core.Path.{◌∙◌, ◌≡◌, refl, sym}
+use mathlib.Core.Path.{◌≡◌}
 use Prim.Native.Nat.{◌-◌, ◌≤◌}
-use native.Mathlib.Omega.{arith}
-use borrow.Author.Rules.{rules}
 use lib.ListN.{drop}
-use Rattle.laws.proofs.Loops.{any_found, any_nowhere, any_onward}
 use Rattle.model.specs.Lists.{any}
 use Rattle.model.specs.Sound.{same_hold}
-use Rattle.model.specs.Tables.{no_hold, hold_rows}
+use Rattle.model.specs.Tables.{hold_rows}
 use Rattle.model.specs.Words.{unpack}
-use Rattle.rows.proofs.Parts.{holds_full}
 use Rattle.rows.specs.Rows.{hold_of}
 use Rattle.search.proofs.has_hold.Given as goal
 

@@ -1,5 +1,4 @@
 -- `search::hold_is` meets its contract: process, role, directory and name are compared. Assumes nothing.
-use borrow.Author.Rules.{rules}
 use Rattle.rows.proofs.Fields.{hold_row_fits}
 use Rattle.rows.specs.Stands.{hold_row}
 use Rattle.search.proofs.Tests.{directory_differs, hold_name_decides, process_differs, role_differs}

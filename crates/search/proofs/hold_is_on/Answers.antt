@@ -1,5 +1,4 @@
 -- `search::hold_is_on` meets its contract: the directory is compared, then the name. Assumes nothing.
-use borrow.Author.Rules.{rules}
 use Rattle.model.specs.Holds.{on}
 use Rattle.rows.proofs.Fields.{hold_row_fits}
 use Rattle.rows.specs.Stands.{hold_row}

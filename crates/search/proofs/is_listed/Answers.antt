@@ -1,5 +1,4 @@
 -- `search::is_listed` meets its contract: the row found is one of the 64. Assumes nothing.
-use borrow.Author.Rules.{rules}
 use Rattle.search.proofs.Tests.{listed_by_row}
 use Rattle.search.proofs.is_listed.Goals as goal
 

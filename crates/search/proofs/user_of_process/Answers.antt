@@ -1,6 +1,5 @@
 -- `search::user_of_process` meets its contract: the user in the row found. Assumes nothing.
 use mathlib.Core.Path.{◌∙◌, refl}
-use borrow.Author.Rules.{rules}
 use Rattle.search.proofs.Tests.{no_user, user_by_row}
 use Rattle.search.proofs.user_of_process.Goals as goal
 

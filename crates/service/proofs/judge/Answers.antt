@@ -1,8 +1,6 @@
 -- `service::judge` meets its contract: 17, 1, what reading found, and the call. Assumes nothing.
 use mathlib.Core.Path.{◌∙◌, sym}
 use native.Mathlib.Omega.{arith}
-use borrow.Author.Rules.{rules}
-use Rattle.laws.proofs.Bools.{not_false}
 use Rattle.laws.proofs.Each.{each_by_place}
 use Rattle.reaching.proofs.Judging.{judged_broken, judged_call, judged_short, judged_unsound}
 use mathlib.Core.Path.{ap}

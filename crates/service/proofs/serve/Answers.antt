@@ -1,6 +1,5 @@
 -- `service::serve` meets its contract. Assumes nothing.
 use mathlib.Core.Path.{◌∙◌, ap}
-use borrow.Author.Rules.{rules}
 use Rattle.records.proofs.ThereAndBack.{reading_takes}
 use Rattle.records.specs.Reading.{taken_of}
 use Rattle.service.proofs.Verdicts.{serves_by}

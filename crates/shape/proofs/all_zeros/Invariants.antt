@@ -1,14 +1,11 @@
 -- `shape::all_zeros` meets its contract: the words are joined bit by bit. Assumes nothing.
 use mathlib.Core.Bool.{◌&&◌}
-use mathlib.Core.Path.{◌≡◌, refl}
+use mathlib.Core.Path.{◌≡◌}
 use Prim.Native.Nat.{◌-◌, ◌≤◌}
-use borrow.Author.Rules.{rules}
-use native.Mathlib.Omega.{arith}
 use lib.Dec.{eqb}
 use lib.ListN.{take, drop}
 use Rattle.rows.specs.Blocks.{target_words}
 use Rattle.shape.specs.Shaped.{zeros}
-use Rattle.shape.proofs.NodeShapes.{zeros_onward, zeros_done}
 use Rattle.shape.proofs.all_zeros.Given as goal
 
 abbrev pub invariant-loop-k : goal.invariant-loop-k

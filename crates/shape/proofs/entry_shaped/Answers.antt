@@ -1,7 +1,6 @@
 -- `shape::entry_shaped` meets its contract. Assumes nothing.
 use mathlib.Core.Path.{◌∙◌}
 use Prim.Native.Nat.{◌*◌}
-use borrow.Author.Rules.{rules}
 use native.Mathlib.Omega.{arith}
 use Rattle.model.specs.Words.{entry_words}
 use Rattle.shape.proofs.RowShapes.{RowRead, entry_blank_at, entry_good_at}

@@ -1,9 +1,7 @@
 -- `shape::hold_shaped` meets its contract. Assumes nothing.
 use mathlib.Core.Path.{sym, ◌∙◌}
 use Prim.Native.Nat.{◌+◌, ◌*◌}
-use borrow.Author.Rules.{rules}
 use native.Mathlib.Omega.{arith}
-use Rattle.laws.proofs.Bools.{not_true, not_false}
 use Rattle.model.specs.Words.{hold_words, first_hold_word}
 use Rattle.shape.proofs.RowShapes.{RowRead, hold_blank_at, no_role, role_there}
 use Rattle.shape.proofs.hold_shaped.Goals as goal

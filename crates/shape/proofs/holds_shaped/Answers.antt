@@ -1,11 +1,6 @@
 -- `shape::holds_shaped` meets its contract: row after row. Assumes nothing.
-use Prim.Native.Nat.{◌-◌}
-use borrow.Author.Rules.{rules}
 use native.Mathlib.Omega.{arith}
-use Rattle.model.specs.Tables.{hold_rows}
-use Rattle.model.specs.Words.{hold_words, first_hold_word}
-use Rattle.shape.specs.Shaped.{hold_shaped}
-use Rattle.shape.proofs.RowByRow.{Passed, none_passed, row_fails, row_passes, all_pass}
+use Rattle.shape.proofs.RowByRow.{none_passed, row_fails, row_passes, all_pass}
 use mathlib.Core.Path.{ap}
 use mathlib.Core.Bool.{not}
 use Rattle.shape.proofs.holds_shaped.Goals as goal

@@ -1,7 +1,6 @@
 -- `shape::is_shaped` meets its contract: table after table. Assumes nothing.
 use mathlib.Core.Path.{sym, ◌∙◌}
-use borrow.Author.Rules.{rules}
-use Rattle.laws.proofs.Bools.{not_true, not_false, stopped, passed}
+use Rattle.laws.proofs.Bools.{stopped, passed}
 use Rattle.shape.proofs.Whole.{wrong_length, all_shaped}
 use Rattle.shape.proofs.is_shaped.Goals as goal
 

@@ -1,11 +1,9 @@
 -- `shape::link_shaped` meets its contract. Assumes nothing.
 use mathlib.Core.Path.{◌≡◌, refl, sym, ap, ◌∙◌}
-use borrow.Author.Rules.{rules}
 use native.Mathlib.Omega.{arith}
 use lib.ListN.{length}
 use lib.Seq.{length-take-le}
 use Rattle.model.specs.Paths.{longest_target}
-use Rattle.laws.proofs.Bools.{not_true, not_false}
 use Rattle.shape.proofs.NodeShapes.{link_long, link_dirty, link_clean, target_bytes}
 use Rattle.shape.proofs.link_shaped.Goals as goal
 

@@ -1,11 +1,6 @@
 -- `shape::nodes_shaped` meets its contract: row after row. Assumes nothing.
-use Prim.Native.Nat.{◌-◌}
-use borrow.Author.Rules.{rules}
 use native.Mathlib.Omega.{arith}
-use Rattle.model.specs.Tables.{node_rows}
-use Rattle.model.specs.Words.{node_words, first_node_word}
-use Rattle.shape.specs.Shaped.{node_shaped}
-use Rattle.shape.proofs.RowByRow.{Passed, none_passed, row_fails, row_passes, all_pass}
+use Rattle.shape.proofs.RowByRow.{none_passed, row_fails, row_passes, all_pass}
 use mathlib.Core.Path.{ap}
 use mathlib.Core.Bool.{not}
 use Rattle.shape.proofs.nodes_shaped.Goals as goal

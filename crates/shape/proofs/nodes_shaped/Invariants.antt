@@ -1,11 +1,9 @@
 -- `shape::nodes_shaped` meets its contract: row after row. Assumes nothing.
 use Prim.Native.Nat.{◌-◌}
-use borrow.Author.Rules.{rules}
-use native.Mathlib.Omega.{arith}
 use Rattle.model.specs.Tables.{node_rows}
 use Rattle.model.specs.Words.{node_words, first_node_word}
 use Rattle.shape.specs.Shaped.{node_shaped}
-use Rattle.shape.proofs.RowByRow.{Passed, none_passed, row_fails, row_passes, all_pass}
+use Rattle.shape.proofs.RowByRow.{Passed}
 use Rattle.shape.proofs.nodes_shaped.Given as goal
 
 abbrev pub invariant-loop-row : goal.invariant-loop-row

@@ -1,11 +1,6 @@
 -- `shape::processes_shaped` meets its contract: row after row. Assumes nothing.
-use Prim.Native.Nat.{◌-◌}
-use borrow.Author.Rules.{rules}
 use native.Mathlib.Omega.{arith}
-use Rattle.model.specs.Tables.{process_rows}
-use Rattle.model.specs.Words.{process_words, first_process_word}
-use Rattle.shape.specs.Shaped.{process_shaped}
-use Rattle.shape.proofs.RowByRow.{Passed, none_passed, row_fails, row_passes, all_pass}
+use Rattle.shape.proofs.RowByRow.{none_passed, row_fails, row_passes, all_pass}
 use Rattle.shape.proofs.RowShapes.{process_at}
 use mathlib.Core.Path.{ap}
 use mathlib.Core.Bool.{not}

@@ -1,13 +1,9 @@
 -- `shape::zeros_behind` meets its contract: byte after byte. Assumes nothing.
-use mathlib.Core.Path.{◌≡◌, refl}
-use Prim.Native.Nat.{◌-◌, ◌≤◌}
-use borrow.Author.Rules.{rules}
+use mathlib.Core.Path.{refl}
 use borrow.Author.Tests.{eq-eqb, ne_eqb}
 use native.Mathlib.Omega.{arith}
 use lib.Dec.{eqb}
-use lib.ListN.{drop}
 use Rattle.laws.proofs.Loops.{all_failed, all_onward, all_passed}
-use Rattle.model.specs.Paths.{longest_target}
 use Rattle.shape.specs.Shaped.{zeros}
 use Rattle.shape.proofs.zeros_behind.Goals as goal
 

@@ -1,7 +1,6 @@
 -- `soundness::keeps_hold_rules` meets its contract: the first rule that is broken decides, and the index of the processes serves those behind it. Assumes nothing.
 use mathlib.Core.Path.{refl, sym, ◌∙◌}
-use borrow.Author.Rules.{rules}
-use Rattle.laws.proofs.Bools.{not_true, not_false, stopped, passed}
+use Rattle.laws.proofs.Bools.{stopped, passed}
 use Rattle.soundness.proofs.keeps_hold_rules.Goals as goal
 
 pub index_processes-requires : goal.index_processes-requires

@@ -1,7 +1,6 @@
 -- `soundness::keeps_rules` meets its contract: the first rule that is broken decides. Assumes nothing.
 use mathlib.Core.Path.{sym, ◌∙◌}
-use borrow.Author.Rules.{rules}
-use Rattle.laws.proofs.Bools.{not_true, not_false, stopped, passed}
+use Rattle.laws.proofs.Bools.{stopped, passed}
 use Rattle.soundness.proofs.keeps_rules.Goals as goal
 
 pub returns-then-not-tree_right : goal.returns-then-not-tree_right

@@ -1,8 +1,6 @@
 -- `soundness::sound_and_index` meets its contract: the groups of rules in turn, with the index of the second. Assumes nothing.
 use mathlib.Core.Path.{◌≡◌, sym, ◌∙◌}
 use mathlib.Core.Bool.{true, false≢true}
-use borrow.Author.Rules.{rules}
-use Rattle.laws.proofs.Bools.{not_true, not_false}
 use Rattle.shape.specs.Shaped.{shaped}
 use Rattle.soundness.proofs.Grouped.{shaped_stands, not_shaped, not_distinct, rules_decide}
 use Rattle.soundness.proofs.sound_and_index.Goals as goal

@@ -1,13 +1,9 @@
 -- `tree_rules::all_counts_fit` meets its contract: node after node. Assumes nothing.
 use Prim.Native.Nat.{◌-◌}
-use borrow.Author.Rules.{rules}
-use native.Mathlib.Omega.{arith}
 use Rattle.model.specs.Tables.{no_node, node_rows}
-use Rattle.model.specs.Sound.{each_node, counts_fit}
 use Rattle.model.specs.Words.{unpack}
-use Rattle.rows.proofs.Parts.{nodes_full}
 use Rattle.tree_rules.specs.Tallied.{counted_fit}
-use Rattle.tree_rules.proofs.RowByRow.{Passed, none_passed, row_fails, row_passes, all_pass}
+use Rattle.tree_rules.proofs.RowByRow.{Passed}
 use Rattle.tree_rules.proofs.all_counts_fit.Given as goal
 
 abbrev pub invariant-loop-row : goal.invariant-loop-row

@@ -1,13 +1,8 @@
 -- `tree_rules::all_counts_right` meets its contract: node after node. Assumes nothing.
-use Prim.Native.Nat.{◌-◌}
-use borrow.Author.Rules.{rules}
 use native.Mathlib.Omega.{arith}
-use Rattle.model.specs.Tables.{no_node, node_rows}
 use Rattle.model.specs.Sound.{each_node, counts_right}
-use Rattle.model.specs.Words.{unpack}
 use Rattle.rows.proofs.Parts.{nodes_full}
-use Rattle.tree_rules.specs.Tallied.{counted_right}
-use Rattle.tree_rules.proofs.RowByRow.{Passed, none_passed, row_fails, row_passes, all_pass}
+use Rattle.tree_rules.proofs.RowByRow.{none_passed, row_fails, row_passes, all_pass}
 use mathlib.Core.Path.{ap}
 use mathlib.Core.Bool.{not}
 use Rattle.tree_rules.proofs.all_counts_right.Goals as goal

@@ -1,5 +1,4 @@
 -- `tree_rules::count_fits` meets its contract. Assumes nothing.
-use borrow.Author.Rules.{rules}
 use Rattle.rows.specs.Stands.{node_row}
 use Rattle.tree_rules.proofs.Nodes.{free_passes, used_decides, root_fits, directory_fits, other_fits}
 use Rattle.tree_rules.proofs.count_fits.Goals as goal

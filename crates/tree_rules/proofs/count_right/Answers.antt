@@ -1,6 +1,5 @@
 -- `tree_rules::count_right` meets its contract. Assumes nothing.
 use mathlib.Core.Path.{ap₂}
-use borrow.Author.Rules.{rules}
 use lib.Dec.{eqb}
 use Rattle.rows.specs.Stands.{node_row}
 use Rattle.tree_rules.proofs.Nodes.{free_passes, used_decides, counted}

@@ -1,14 +1,9 @@
 -- `tree_rules::entries_lead` meets its contract: entry after entry. Assumes nothing.
-use mathlib.Core.Path.{◌∙◌}
 use Prim.Native.Nat.{◌-◌}
-use borrow.Author.Rules.{rules}
-use native.Mathlib.Omega.{arith}
 use Rattle.model.specs.Tables.{no_entry, entry_rows}
 use Rattle.model.specs.Words.{unpack}
-use Rattle.rows.proofs.Parts.{entries_full}
 use Rattle.tree_rules.specs.Tallied.{leads}
-use Rattle.tree_rules.proofs.Nodes.{entry_rules}
-use Rattle.tree_rules.proofs.RowByRow.{Passed, none_passed, row_fails, row_passes, all_pass}
+use Rattle.tree_rules.proofs.RowByRow.{Passed}
 use Rattle.tree_rules.proofs.entries_lead.Given as goal
 
 abbrev pub invariant-loop-row : goal.invariant-loop-row

@@ -1,5 +1,4 @@
 -- `tree_rules::entry_leads` meets its contract. Assumes nothing.
-use borrow.Author.Rules.{rules}
 use Rattle.model.specs.Words.{unpack}
 use Rattle.rows.specs.Stands.{entry_row}
 use mathlib.Core.Path.{ap, ◌∙◌}

@@ -1,5 +1,4 @@
 -- `tree_rules::first_right` meets its contract. Assumes nothing.
-use borrow.Author.Rules.{rules}
 use Rattle.tree_rules.proofs.Nodes.{first_no_directory, first_count}
 use Rattle.tree_rules.proofs.first_right.Goals as goal
 

@@ -1,12 +1,9 @@
 -- `tree_rules::tally` meets its contract: each entry is counted for the node that it leads to. Assumes nothing.
-use mathlib.Core.Logic.{⊎_elim}
 use mathlib.Core.Path.{◌≡◌, ◌∙◌}
-use Prim.Native.Nat.{ℕ, ◌-◌, ◌≤◌, ◌<◌}
-use borrow.Author.Rules.{rules}
+use Prim.Native.Nat.{ℕ, ◌≤◌, ◌<◌}
 use native.Mathlib.Omega.{arith}
-use Rattle.model.specs.Tables.{entry_rows}
 use Rattle.tree_rules.specs.Tallied.{counters}
-use Rattle.tree_rules.proofs.Nodes.{Counting, counting_starts, counting_past, counting_more, counting_ends}
+use Rattle.tree_rules.proofs.Nodes.{counting_starts, counting_past, counting_more, counting_ends}
 use Rattle.tree_rules.proofs.tally.Goals as goal
 use Rattle.tree_rules.proofs.tally.Goals.{then-node-ne0+then-node-lt-COUNTS, then-node-ne0+else-node-lt-COUNTS, else-node-ne0}
 

@@ -1,6 +1,5 @@
 -- `tree_rules::tree_right` meets its contract: rule after rule. Assumes nothing.
 use mathlib.Core.Path.{sym, ◌∙◌}
-use borrow.Author.Rules.{rules}
 use Rattle.laws.proofs.Bools.{not_true, not_false, stopped, passed}
 use mathlib.Core.Path.{ap}
 use mathlib.Core.Bool.{not}

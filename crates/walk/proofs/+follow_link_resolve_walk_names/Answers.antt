@@ -1,29 +1,27 @@
 -- Walking names, resolving one and following a link: each returns the model's walk of what is left. Assumes nothing.
 use mathlib.Core.Path.{◌≡◌, refl, sym, ap, subst, ◌∙◌}
-use mathlib.Core.Bool.{Bool, true, false}
+use mathlib.Core.Bool.{true, false}
 use mathlib.Core.Logic.{inl, inr, ◌⊎◌, ◌≢◌}
 use mathlib.Core.List.{List}
-use Prim.Native.Nat.{ℕ, ◌-◌, ◌+◌, ◌≤◌, ◌<◌}
+use Prim.Native.Nat.{ℕ, ◌-◌, ◌≤◌}
 use native.Mathlib.Omega.{arith}
 use borrow.Author.Tests.{eq-eqb, ne_eqb}
-use lib.ListN.{get_or, length, take}
+use lib.ListN.{length}
 use lib.Seq.{length-take-le}
 use Rattle.model.specs.Lists.{filled}
 use Rattle.model.specs.Paths.{longest_target, valid_names}
 use Rattle.model.specs.Sound.{sound_rows}
-use Rattle.model.specs.Tables.{a_link, node_at, lookup}
-use Rattle.model.specs.Walk.{start}
+use Rattle.model.specs.Tables.{a_link, node_at}
 use Rattle.model.specs.Words.{unpack}
-use Rattle.rows.specs.Blocks.{place_of}
 use Rattle.rows.specs.Stands.{node_row}
 use Rattle.rows.specs.declared.Target.{Target}
 use Rattle.paths.proofs.Splits.{next_ends}
 use Rattle.walk.specs.declared.Trail.{Trail}
 use Rattle.walk.proofs.Continues.{is_refused, not_refused}
-use Rattle.walk.proofs.Found.{Walkable, sound_walkable}
+use Rattle.walk.proofs.Found.{sound_walkable}
 use Rattle.walk.proofs.Steps.{TargetRead, link_in_range, target_read, started, no_link_left, ready_inside, follows_target}
 use Rattle.walk.proofs.Steps.{in_no_directory, node_met, resolves_link, stops_at_entry}
-use Rattle.walk.proofs.Steps.{NextName, next_name_met, block_names, Met, stops_by_slash, last_resolved, stopped_on_the_way, walks_on}
+use Rattle.walk.proofs.Steps.{next_name_met, block_names, Met, stops_by_slash, last_resolved, stopped_on_the_way, walks_on}
 use Rattle.walk.proofs.+follow_link_resolve_walk_names.Goals as goal
 use Rattle.walk.proofs.+follow_link_resolve_walk_names.Goals.{resolve-then-follow+else-node_kind-eq-LINK, resolve-else-follow}
 

@@ -1,7 +1,4 @@
 -- Where a walk that has to go on stopped: as it was, or by the kind of the node there. Assumes nothing.
-use mathlib.Core.List.{List}
-use borrow.Author.Rules.{rules}
-use Rattle.model.specs.Tables.{Node}
 use Rattle.model.specs.Words.{unpack}
 use Rattle.walk.proofs.Answers.{stays, is_missing, is_a_directory, is_no_directory}
 use Rattle.walk.proofs.only_directory.Goals as goal

@@ -1,6 +1,5 @@
 -- The place of a row: blank for none, and else read there. Assumes nothing.
 use mathlib.Core.Path.{◌∙◌}
-use borrow.Author.Rules.{rules}
 use Rattle.goals.specs.Goals.{place_row}
 use Rattle.walk.proofs.Places.{no_place, place_read}
 use Rattle.walk.proofs.place_in.Goals as goal

@@ -1,9 +1,6 @@
 -- The places of rows: each is read in its turn, and what is left to read stays blank. Assumes nothing.
 use Prim.Native.Nat.{◌-◌}
-use native.Mathlib.Omega.{arith}
-use borrow.Author.Rules.{rules}
-use Rattle.laws.proofs.Each.{each_at}
-use Rattle.walk.proofs.Places.{Filling, filling_starts, filling_more, filling_done}
+use Rattle.walk.proofs.Places.{Filling}
 use Rattle.walk.proofs.places_in.Given as goal
 
 abbrev pub invariant-loop-at : goal.invariant-loop-at

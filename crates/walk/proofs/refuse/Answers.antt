@@ -1,5 +1,4 @@
 -- A refused walk: the number, and blank room. Assumes nothing.
-use borrow.Author.Rules.{rules}
 use Rattle.goals.specs.Goals.{walked}
 use Rattle.walk.proofs.refuse.Goals as goal
 

@@ -1,5 +1,4 @@
 -- A walk that goes on: from the node at its end, with the links that it followed. Assumes nothing.
-use borrow.Author.Rules.{rules}
 use Rattle.walk.specs.Trails.{onward_from}
 use Rattle.walk.proofs.trail_of.Goals as goal
 

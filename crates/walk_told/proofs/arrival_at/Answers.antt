@@ -1,7 +1,6 @@
 -- `walk_told::arrival_at` meets its contract: a case of the stop by a case of the answer. Assumes nothing.
 use mathlib.Core.Path.{sym, ap}
 use Rattle.walk_told.specs.Arrivals.{arrival_at}
-use borrow.Author.Rules.{rules}
 use Rattle.walk_told.proofs.arrival_at.Goals as goal
 
 pub returns-in-Refused : goal.returns-in-Refused

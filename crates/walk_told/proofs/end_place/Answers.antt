@@ -2,7 +2,6 @@
 use mathlib.Core.Path.{sym, ap}
 use Rattle.goals.specs.Goals.{blank}
 use Rattle.walk_told.specs.Arrivals.{end_place}
-use borrow.Author.Rules.{rules}
 use Rattle.walk_told.proofs.end_place.Goals as goal
 
 pub returns-in-Refused : goal.returns-in-Refused

@@ -1,13 +1,7 @@
 -- `walk_told::put_elements` meets its contract: what is left to store gives the whole. Assumes nothing.
-use mathlib.Core.Path.{◌≡◌}
-use Prim.Native.Nat.{◌+◌, ◌*◌, ◌-◌, ◌≤◌}
 use native.Mathlib.Omega.{arith}
 use borrow.Author.Rules.{rules}
-use lib.ListN.{drop}
-use lib.Seq.{sets}
-use Rattle.model.specs.Lists.{joined}
 use Rattle.goals.specs.Goals.{blank}
-use Rattle.walk_told.specs.Arrivals.{place_size, most_elements, elements_at, place_words}
 use Rattle.walk_told.proofs.Stored.{places_start, places_onward, places_done}
 use Rattle.walk_told.proofs.put_elements.Goals as goal
 

@@ -5,7 +5,6 @@ use lib.Seq.{sets}
 use Rattle.goals.specs.declared.Place.{Place}
 use Rattle.walk_told.specs.Arrivals.{place_words, goal_words}
 use Rattle.walk_told.proofs.Stored.{goal_stored}
-use borrow.Author.Rules.{rules}
 use Rattle.walk_told.proofs.put_goal.Goals as goal
 
 pub returns : goal.returns

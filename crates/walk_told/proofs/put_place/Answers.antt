@@ -1,6 +1,5 @@
 -- `walk_told::put_place` meets its contract: five words in a row. Assumes nothing.
 use Rattle.walk_told.proofs.Stored.{place_stored}
-use borrow.Author.Rules.{rules}
 use Rattle.walk_told.proofs.put_place.Goals as goal
 
 pub returns : goal.returns

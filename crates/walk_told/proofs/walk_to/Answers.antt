@@ -1,9 +1,7 @@
 -- `walk_told::walk_to` meets its contract: 1, 3, and what the walk comes to. Assumes nothing.
 use mathlib.Core.Path.{refl, sym, ◌∙◌}
-use Rattle.laws.proofs.Bools.{not_false}
 use Rattle.laws.proofs.Words.{sound_has_sound_rows}
 use Rattle.walk_told.proofs.Reached.{unsound_arrives, invalid_arrives, walk_arrives, walk_roomy}
-use borrow.Author.Rules.{rules}
 use mathlib.Core.Path.{ap}
 use mathlib.Core.Bool.{not}
 use Rattle.walk_told.proofs.walk_to.Goals as goal

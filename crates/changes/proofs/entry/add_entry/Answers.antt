@@ -1,5 +1,4 @@
 -- `changes::entry::add_entry` meets its contract: by where the walk stopped. Assumes nothing.
-use borrow.Author.Rules.{rules}
 use Rattle.changes.proofs.Entering.{entry_added, no_entry_added}
 use Rattle.holds.proofs.Ways.{end_named, entry_end, refused_end, root_end}
 use Rattle.plans.proofs.Planning.{end_used}

@@ -1,13 +1,9 @@
 -- `changes::entry::drop_at` meets its contract: the rows left to clear give what the whole gives. Assumes nothing.
-use Prim.Native.Nat.{◌-◌, ◌≤◌}
 use native.Mathlib.Omega.{arith}
 use borrow.Author.Rules.{rules}
-use Rattle.model.specs.Lists.{clear}
-use Rattle.model.specs.Tables.{at, no_entry, with_entries, entry_rows}
-use Rattle.model.specs.Words.{unpack}
-use Rattle.changes.proofs.Entering.{dropping_entries, entries_begin, entries_end, entries_on}
+use Rattle.model.specs.Tables.{at}
+use Rattle.changes.proofs.Entering.{entries_begin, entries_end, entries_on}
 use Rattle.rows.specs.Blocks.{place_of}
-use Rattle.holds.proofs.Towards.{Towards}
 use Rattle.changes.proofs.entry.drop_at.Goals as goal
 
 pub loop-i-init : goal.loop-i-init

@@ -1,5 +1,4 @@
 -- `changes::entry::drop_entry` meets its contract: by where the walk stopped. Assumes nothing.
-use borrow.Author.Rules.{rules}
 use Rattle.changes.proofs.Entering.{entry_dropped, no_entry_dropped}
 use Rattle.goals.specs.Goals.{PlaceNamed, place_at}
 use Rattle.holds.proofs.Ways.{end_named, entry_end, refused_end, root_end}

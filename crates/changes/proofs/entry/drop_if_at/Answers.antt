@@ -1,5 +1,4 @@
 -- `changes::entry::drop_if_at` meets its contract: the row is cleared where it is at the place. Assumes nothing.
-use borrow.Author.Rules.{rules}
 use Rattle.model.specs.Tables.{at}
 use Rattle.changes.proofs.Entering.{entry_row_dropped, entry_row_left}
 use Rattle.rows.specs.Blocks.{place_of}

@@ -1,6 +1,5 @@
 -- `changes::entry::put_at` meets its contract: the lowest free row is written. Assumes nothing.
 use native.Mathlib.Omega.{arith}
-use borrow.Author.Rules.{rules}
 use Rattle.changes.proofs.Entering.{entry_not_put, entry_put, new_entry_good}
 use Rattle.changes.proofs.entry.put_at.Goals as goal
 

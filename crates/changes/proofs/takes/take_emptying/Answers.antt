@@ -1,5 +1,4 @@
 -- `changes::takes::take_emptying` meets its contract: both drops, then the additions. Assumes nothing.
-use borrow.Author.Rules.{rules}
 use Rattle.model.specs.Holds.{emptied, wanted}
 use Rattle.model.specs.Words.{unpack}
 use Rattle.goals.specs.Goals.{goal_of}

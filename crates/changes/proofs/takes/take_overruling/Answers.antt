@@ -1,5 +1,4 @@
 -- `changes::takes::take_overruling` meets its contract: the drops, then the additions. Assumes nothing.
-use borrow.Author.Rules.{rules}
 use Rattle.model.specs.Holds.{overruled, wanted}
 use Rattle.model.specs.Words.{unpack}
 use Rattle.goals.specs.Goals.{goal_of}

@@ -1,5 +1,4 @@
 -- `changes::tests::is_blocked` meets its contract: root is never blocked. Assumes nothing.
-use borrow.Author.Rules.{rules}
 use Rattle.model.specs.Calls.{blocked}
 use Rattle.model.specs.Holds.{entry_held}
 use Rattle.model.specs.Words.{unpack}

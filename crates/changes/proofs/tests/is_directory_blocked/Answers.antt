@@ -1,7 +1,6 @@
 -- `changes::tests::is_directory_blocked` meets its contract: the end entry, then the inside, and root is never blocked. Assumes nothing.
 use mathlib.Core.Bool.{◌||◌}
 use mathlib.Core.Path.{◌∙◌, ap}
-use borrow.Author.Rules.{rules}
 use Rattle.model.specs.Calls.{directory_blocked}
 use Rattle.model.specs.Holds.{entry_held, inside_held}
 use Rattle.model.specs.Words.{unpack}

@@ -1,7 +1,6 @@
 -- `changes::tests::is_no_directory` meets its contract: `/`, or another kind. Assumes nothing.
 use mathlib.Core.Bool.{not}
 use mathlib.Core.Path.{ap}
-use borrow.Author.Rules.{rules}
 use Rattle.model.specs.Tables.{is_directory}
 use Rattle.model.specs.Words.{unpack}
 use Rattle.changes.proofs.Testing.{first_applies, second_decides}

@@ -1,7 +1,6 @@
 -- `changes::tests::is_present` meets its contract. Assumes nothing.
 use mathlib.Core.Bool.{not}
 use mathlib.Core.Path.{ap}
-use borrow.Author.Rules.{rules}
 use Rattle.changes.proofs.tests.is_present.Goals as goal
 
 pub returns : goal.returns

@@ -1,5 +1,4 @@
 -- `changes::tests::lacks_entry_row` meets its contract: the search ends behind the last row. Assumes nothing.
-use borrow.Author.Rules.{rules}
 use Rattle.changes.proofs.Testing.{no_entry_row}
 use Rattle.changes.proofs.tests.lacks_entry_row.Goals as goal
 

@@ -1,5 +1,4 @@
 -- `changes::tests::lacks_node_row` meets its contract: the search ends behind the last row. Assumes nothing.
-use borrow.Author.Rules.{rules}
 use Rattle.changes.proofs.Testing.{no_node_row}
 use Rattle.changes.proofs.tests.lacks_node_row.Goals as goal
 

@@ -1,5 +1,4 @@
 -- `changes::tests::lacks_rows` meets its contract: entries first, then nodes. Assumes nothing.
-use borrow.Author.Rules.{rules}
 use Rattle.model.specs.Calls.{no_free_node}
 use Rattle.model.specs.Words.{unpack}
 use Rattle.changes.proofs.Testing.{first_applies, second_decides}

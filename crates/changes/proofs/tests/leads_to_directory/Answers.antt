@@ -1,6 +1,5 @@
 -- `changes::tests::leads_to_directory` meets its contract: kind 2 is a directory. Assumes nothing.
 use mathlib.Core.Path.{◌∙◌, ap}
-use borrow.Author.Rules.{rules}
 use lib.Dec.{eqb}
 use Rattle.model.specs.Tables.{is_directory, node_at}
 use Rattle.model.specs.Words.{unpack}

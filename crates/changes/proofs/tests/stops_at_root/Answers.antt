@@ -1,5 +1,4 @@
 -- `changes::tests::stops_at_root` meets its contract: by where the walk stopped. Assumes nothing.
-use borrow.Author.Rules.{rules}
 use Rattle.changes.proofs.Testing.{root_is, root_not}
 use Rattle.goals.specs.Goals.{goal_of}
 use Rattle.holds.proofs.Ways.{entry_end, refused_end, root_end}

@@ -1,14 +1,12 @@
 -- `creations::at_end::link_at` meets its contract: 10, 11, 12, 14, 15, 16, and then the holds, the entry and its node. Assumes nothing.
 use mathlib.Core.Path.{refl, ◌∙◌, ap}
 use mathlib.Core.List.{List}
-use borrow.Author.Rules.{rules}
-use Rattle.model.specs.Refusals.{Outcome}
-use Rattle.model.specs.Calls.{Change, link_at, one_more, set_node}
+use Rattle.model.specs.Calls.{link_at, one_more, set_node}
 use Rattle.model.specs.Holds.{no_room}
 use Rattle.model.specs.Tables.{Node, node_at}
 use Rattle.model.specs.Words.{unpack}
 use Rattle.model.specs.declared.Answer.TheVariants.{Done}
-use Rattle.rows.proofs.Meeting.{Past, at_first, past_test, refused_at, grants}
+use Rattle.rows.proofs.Meeting.{at_first, past_test, refused_at, grants}
 use Rattle.goals.specs.Goals.{goal_of}
 use Rattle.creations.proofs.Entered.{countable_still, entered, is_there, nodes_stay}
 use Rattle.creations.proofs.at_end.link_at.Goals as goal

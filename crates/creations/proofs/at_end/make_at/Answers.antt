@@ -2,15 +2,13 @@
 use mathlib.Core.Path.{refl, ◌∙◌, ap}
 use Prim.Native.Nat.{◌<◌}
 use native.Mathlib.Omega.{arith}
-use borrow.Author.Rules.{rules}
 use lib.ListN.{set}
-use Rattle.model.specs.Refusals.{Outcome}
-use Rattle.model.specs.Calls.{Change, make_at}
+use Rattle.model.specs.Calls.{make_at}
 use Rattle.model.specs.Holds.{no_room}
 use Rattle.model.specs.Tables.{Node, node_rows}
 use Rattle.model.specs.Words.{unpack}
 use Rattle.model.specs.declared.Answer.TheVariants.{Done}
-use Rattle.rows.proofs.Meeting.{Past, at_first, past_test, refused_at, grants}
+use Rattle.rows.proofs.Meeting.{at_first, past_test, refused_at, grants}
 use Rattle.goals.specs.Goals.{goal_of}
 use Rattle.creations.proofs.Entered.{entered, node_made, node_number, node_row_there}
 use Rattle.creations.proofs.at_end.make_at.Goals as goal

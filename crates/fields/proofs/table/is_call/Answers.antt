@@ -1,6 +1,5 @@
 -- `fields::table::is_call` meets its contract. Assumes nothing.
 use mathlib.Core.Path.{sym, ap}
-use borrow.Author.Rules.{rules}
 use Rattle.fields.specs.Rows.{is_call}
 use Rattle.fields.proofs.table.is_call.Goals as goal
 

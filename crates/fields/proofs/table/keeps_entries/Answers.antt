@@ -1,6 +1,5 @@
 -- `fields::table::keeps_entries` meets its contract: by the class. Assumes nothing.
 use mathlib.Core.Path.{sym, ap, ◌∙◌}
-use borrow.Author.Rules.{rules}
 use Rattle.fields.proofs.TableRows.{stays, effect_cell}
 use Rattle.fields.proofs.table.keeps_entries.Goals as goal
 

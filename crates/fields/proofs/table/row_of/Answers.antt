@@ -3,7 +3,6 @@ use mathlib.Core.Path.{sym}
 use Rattle.model.specs.Records.{calls, row_of}
 use Rattle.fields.specs.Rows.{coded_class, coded_cell, coded_row}
 use Rattle.fields.proofs.TableRows.{below_the_table, behind_the_table, in_the_table}
-use borrow.Author.Rules.{rules}
 use Rattle.fields.proofs.table.row_of.Goals as goal
 
 pub returns-then-place-lt1 : goal.returns-then-place-lt1

@@ -1,7 +1,6 @@
 -- `looks::at_end::is_missing` meets its contract. Assumes nothing.
 use mathlib.Core.Bool.{◌&&◌}
 use mathlib.Core.Path.{◌∙◌, ap, sym}
-use borrow.Author.Rules.{rules}
 use Rattle.model.specs.Calls.{absent}
 use Rattle.goals.specs.Goals.{goal_of}
 use Rattle.looks.proofs.at_end.is_missing.Goals as goal

@@ -1,5 +1,4 @@
 -- `looks::at_end::is_seen` meets its contract: root sees nothing that it does not hold. Assumes nothing.
-use borrow.Author.Rules.{rules}
 use Rattle.model.specs.Holds.{end_held}
 use Rattle.model.specs.Words.{unpack}
 use Rattle.holds.proofs.Rooted.{others_ask, root_passes}

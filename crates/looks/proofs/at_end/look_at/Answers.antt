@@ -1,12 +1,10 @@
 -- `looks::at_end::look_at` meets its contract: 10, seen, 16, and then the holds. Assumes nothing.
 use mathlib.Core.Path.{refl, ◌∙◌, ap}
-use borrow.Author.Rules.{rules}
-use Rattle.model.specs.Refusals.{Outcome}
-use Rattle.model.specs.Calls.{Change, hold_at, look_at}
+use Rattle.model.specs.Calls.{hold_at, look_at}
 use Rattle.model.specs.Holds.{no_room}
 use Rattle.model.specs.Words.{unpack}
 use Rattle.model.specs.declared.Answer.TheVariants.{Held, Seen}
-use Rattle.rows.proofs.Meeting.{Past, at_first, past_test, refused_at, grants, meets_as, unchanged}
+use Rattle.rows.proofs.Meeting.{at_first, past_test, refused_at, grants, meets_as, unchanged}
 use Rattle.goals.specs.Goals.{goal_of}
 use Rattle.looks.proofs.SeenOrHeld.{is_held, is_seen}
 use Rattle.looks.proofs.at_end.look_at.Goals as goal

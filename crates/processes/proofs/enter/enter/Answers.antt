@@ -1,6 +1,5 @@
 -- `processes::enter::enter` meets its contract: 5, 6, and then the process is listed. Assumes nothing.
 use mathlib.Core.Path.{refl}
-use borrow.Author.Rules.{rules}
 use Rattle.model.specs.Calls.{enter}
 use Rattle.rows.proofs.Meeting.{grants, passes, refuses}
 use Rattle.processes.proofs.enter.enter.Goals as goal

@@ -1,6 +1,5 @@
 -- `processes::exec::exec` meets its contract: 4, and then the holds are dropped. Assumes nothing.
 use mathlib.Core.Path.{refl}
-use borrow.Author.Rules.{rules}
 use Rattle.model.specs.Calls.{exec}
 use Rattle.rows.proofs.Meeting.{grants, passes, refuses}
 use Rattle.processes.proofs.exec.exec.Goals as goal

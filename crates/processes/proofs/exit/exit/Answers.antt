@@ -1,7 +1,6 @@
 -- `processes::exit::exit` meets its contract: 4, and then the holds are dropped and the process. Assumes nothing.
 use mathlib.Core.Path.{refl}
 use native.Mathlib.Omega.{arith}
-use borrow.Author.Rules.{rules}
 use Rattle.model.specs.Calls.{drop_process, exit}
 use Rattle.model.specs.Tables.{with_processes}
 use Rattle.rows.proofs.Meeting.{grants, passes, refuses, then_becomes}

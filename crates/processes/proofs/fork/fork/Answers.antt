@@ -1,7 +1,6 @@
 -- `processes::fork::fork` meets its contract: 4, 5, 6, 16, and then the copies and the child. Assumes nothing.
 use mathlib.Core.Path.{◌≡◌, refl}
 use mathlib.Core.Bool.{false}
-use borrow.Author.Rules.{rules}
 use Rattle.model.specs.Calls.{fork, unlisted}
 use Rattle.model.specs.Words.{unpack}
 use Rattle.rows.proofs.Meeting.{grants, passes, refuses}

@@ -1,5 +1,4 @@
 -- `processes::fork::lacks_room_for_copies` meets its contract: as many copies as the parent has holds. Assumes nothing.
-use borrow.Author.Rules.{rules}
 use Rattle.processes.proofs.Forking.{copies_room}
 use Rattle.processes.proofs.fork.lacks_room_for_copies.Goals as goal
 

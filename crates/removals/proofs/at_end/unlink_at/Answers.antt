@@ -1,12 +1,10 @@
 -- `removals::at_end::unlink_at` meets its contract: 10, 12, 14, 16, and then the holds, the entry and its node. Assumes nothing.
 use mathlib.Core.Path.{refl, ◌∙◌, ap}
-use borrow.Author.Rules.{rules}
-use Rattle.model.specs.Refusals.{Outcome}
-use Rattle.model.specs.Calls.{Change, unlink_at}
+use Rattle.model.specs.Calls.{unlink_at}
 use Rattle.model.specs.Holds.{no_room}
 use Rattle.model.specs.Words.{unpack}
 use Rattle.model.specs.declared.Answer.TheVariants.{Done}
-use Rattle.rows.proofs.Meeting.{Past, at_first, past_test, refused_at, grants}
+use Rattle.rows.proofs.Meeting.{at_first, past_test, refused_at, grants}
 use Rattle.goals.specs.Goals.{goal_of}
 use Rattle.removals.proofs.Removed.{removed}
 use Rattle.removals.proofs.at_end.unlink_at.Goals as goal
