@@ -15,21 +15,21 @@ pub enter-requires : goal.enter-requires
 unfolding known row_of calls
 enter-requires c =
     let read = (c.requires (known_by c.args.fields 1 refl c.in-1.is)) in
-    ((stands_sound c.args.words.now ((c.requires (known_by c.args.fields 1 refl c.in-1.is))).sound), process_counts read.bytes read.read)
+    ((stands_sound c.args.words.now (c.requires (known_by c.args.fields 1 refl c.in-1.is)).sound), process_counts read.bytes read.read)
 
 pub fork-requires : goal.fork-requires
 unfolding known row_of calls
 fork-requires c =
     let read = (c.requires (known_by c.args.fields 2 refl c.in-2.is)) in
-    ((stands_sound c.args.words.now ((c.requires (known_by c.args.fields 2 refl c.in-2.is))).sound), (process_counts read.bytes read.read, child_counts read.bytes read.read c.in-2.is))
+    ((stands_sound c.args.words.now (c.requires (known_by c.args.fields 2 refl c.in-2.is)).sound), (process_counts read.bytes read.read, child_counts read.bytes read.read c.in-2.is))
 
 pub exec-requires : goal.exec-requires
 unfolding known row_of calls
-exec-requires c = (stands_sound c.args.words.now ((c.requires (known_by c.args.fields 3 refl c.in-3.is))).sound)
+exec-requires c = (stands_sound c.args.words.now (c.requires (known_by c.args.fields 3 refl c.in-3.is)).sound)
 
 pub exit-requires : goal.exit-requires
 unfolding known row_of calls
-exit-requires c = (stands_sound c.args.words.now ((c.requires (known_by c.args.fields 4 refl c.in-4.is))).sound)
+exit-requires c = (stands_sound c.args.words.now (c.requires (known_by c.args.fields 4 refl c.in-4.is)).sound)
 
 pub check-requires : goal.check-requires
 unfolding known row_of calls
@@ -77,52 +77,52 @@ rmdir-requires c = ((c.requires (known_by c.args.fields 13 refl c.in-13.is)), wa
 
 pub returns-in-1 : goal.returns-in-1
 unfolding enter
-returns-in-1 c = meets_as (step_enter ((unpack c.args.words.now)) ((call_in c.args.bytes.now c.args.fields)) c.in-1.is) c.enter.ensures
+returns-in-1 c = meets_as (step_enter (unpack c.args.words.now) (call_in c.args.bytes.now c.args.fields) c.in-1.is) c.enter.ensures
 
 pub returns-in-2 : goal.returns-in-2
 unfolding fork
-returns-in-2 c = meets_as (step_fork ((unpack c.args.words.now)) ((call_in c.args.bytes.now c.args.fields)) c.in-2.is) c.fork.ensures
+returns-in-2 c = meets_as (step_fork (unpack c.args.words.now) (call_in c.args.bytes.now c.args.fields) c.in-2.is) c.fork.ensures
 
 pub returns-in-3 : goal.returns-in-3
 unfolding exec
-returns-in-3 c = meets_as (step_exec ((unpack c.args.words.now)) ((call_in c.args.bytes.now c.args.fields)) c.in-3.is) c.exec.ensures
+returns-in-3 c = meets_as (step_exec (unpack c.args.words.now) (call_in c.args.bytes.now c.args.fields) c.in-3.is) c.exec.ensures
 
 pub returns-in-4 : goal.returns-in-4
 unfolding exit
-returns-in-4 c = meets_as (step_exit ((unpack c.args.words.now)) ((call_in c.args.bytes.now c.args.fields)) c.in-4.is) c.exit.ensures
+returns-in-4 c = meets_as (step_exit (unpack c.args.words.now) (call_in c.args.bytes.now c.args.fields) c.in-4.is) c.exit.ensures
 
 pub returns-in-5 : goal.returns-in-5
-returns-in-5 c = meets_as (step_check ((unpack c.args.words.now)) ((call_in c.args.bytes.now c.args.fields)) c.in-5.is) c.check.ensures
+returns-in-5 c = meets_as (step_check (unpack c.args.words.now) (call_in c.args.bytes.now c.args.fields) c.in-5.is) c.check.ensures
 
 pub returns-in-6 : goal.returns-in-6
-returns-in-6 c = meets_as (step_look ((unpack c.args.words.now)) ((call_in c.args.bytes.now c.args.fields)) c.in-6.is) c.look.ensures
+returns-in-6 c = meets_as (step_look (unpack c.args.words.now) (call_in c.args.bytes.now c.args.fields) c.in-6.is) c.look.ensures
 
 pub returns-in-7 : goal.returns-in-7
-returns-in-7 c = meets_as (step_use ((unpack c.args.words.now)) ((call_in c.args.bytes.now c.args.fields)) c.in-7.is) c.use_of.ensures
+returns-in-7 c = meets_as (step_use (unpack c.args.words.now) (call_in c.args.bytes.now c.args.fields) c.in-7.is) c.use_of.ensures
 
 pub returns-in-8 : goal.returns-in-8
-returns-in-8 c = meets_as (step_create ((unpack c.args.words.now)) ((call_in c.args.bytes.now c.args.fields)) c.in-8.is) c.create.ensures
+returns-in-8 c = meets_as (step_create (unpack c.args.words.now) (call_in c.args.bytes.now c.args.fields) c.in-8.is) c.create.ensures
 
 pub returns-in-9 : goal.returns-in-9
-returns-in-9 c = meets_as (step_mkdir ((unpack c.args.words.now)) ((call_in c.args.bytes.now c.args.fields)) c.in-9.is) c.mkdir.ensures
+returns-in-9 c = meets_as (step_mkdir (unpack c.args.words.now) (call_in c.args.bytes.now c.args.fields) c.in-9.is) c.mkdir.ensures
 
 pub returns-in-10 : goal.returns-in-10
-returns-in-10 c = meets_as (step_symlink ((unpack c.args.words.now)) ((call_in c.args.bytes.now c.args.fields)) c.in-10.is) c.symlink.ensures
+returns-in-10 c = meets_as (step_symlink (unpack c.args.words.now) (call_in c.args.bytes.now c.args.fields) c.in-10.is) c.symlink.ensures
 
 pub returns-in-11 : goal.returns-in-11
-returns-in-11 c = meets_as (step_link ((unpack c.args.words.now)) ((call_in c.args.bytes.now c.args.fields)) c.in-11.is) c.link.ensures
+returns-in-11 c = meets_as (step_link (unpack c.args.words.now) (call_in c.args.bytes.now c.args.fields) c.in-11.is) c.link.ensures
 
 pub returns-in-12 : goal.returns-in-12
-returns-in-12 c = meets_as (step_unlink ((unpack c.args.words.now)) ((call_in c.args.bytes.now c.args.fields)) c.in-12.is) c.unlink.ensures
+returns-in-12 c = meets_as (step_unlink (unpack c.args.words.now) (call_in c.args.bytes.now c.args.fields) c.in-12.is) c.unlink.ensures
 
 pub returns-in-13 : goal.returns-in-13
-returns-in-13 c = meets_as (step_rmdir ((unpack c.args.words.now)) ((call_in c.args.bytes.now c.args.fields)) c.in-13.is) c.rmdir.ensures
+returns-in-13 c = meets_as (step_rmdir (unpack c.args.words.now) (call_in c.args.bytes.now c.args.fields) c.in-13.is) c.rmdir.ensures
 
 pub returns-in-14-to-31 : goal.returns-in-14-to-31
 returns-in-14-to-31 c =
     let rest = c.in-14-to-31.in_default-own.rest in
     meets_as
-    (step_unknown ((unpack c.args.words.now)) ((call_in c.args.bytes.now c.args.fields))
+    (step_unknown (unpack c.args.words.now) (call_in c.args.bytes.now c.args.fields)
     rest.0.0.0.0.0.0.0.0.0.0.0.0.1 rest.0.0.0.0.0.0.0.0.0.0.0.1 rest.0.0.0.0.0.0.0.0.0.0.1 rest.0.0.0.0.0.0.0.0.0.1
     rest.0.0.0.0.0.0.0.0.1 rest.0.0.0.0.0.0.0.1 rest.0.0.0.0.0.0.1 rest.0.0.0.0.0.1 rest.0.0.0.0.1
     rest.0.0.0.1 rest.0.0.1 rest.0.1 rest.1)
@@ -132,7 +132,7 @@ pub returns-in_default : goal.returns-in_default
 returns-in_default c =
     let rest = c.in_default.in_default-own.rest in
     meets_as
-    (step_unknown ((unpack c.args.words.now)) ((call_in c.args.bytes.now c.args.fields))
+    (step_unknown (unpack c.args.words.now) (call_in c.args.bytes.now c.args.fields)
     rest.0.0.0.0.0.0.0.0.0.0.0.0.1 rest.0.0.0.0.0.0.0.0.0.0.0.1 rest.0.0.0.0.0.0.0.0.0.0.1 rest.0.0.0.0.0.0.0.0.0.1
     rest.0.0.0.0.0.0.0.0.1 rest.0.0.0.0.0.0.0.1 rest.0.0.0.0.0.0.1 rest.0.0.0.0.0.1 rest.0.0.0.0.1
     rest.0.0.0.1 rest.0.0.1 rest.0.1 rest.1)
@@ -142,7 +142,7 @@ pub returns-in_default-2 : goal.returns-in_default-2
 returns-in_default-2 c =
     let rest = c.in_default.in_default-own.rest in
     meets_as
-    (step_unknown ((unpack c.args.words.now)) ((call_in c.args.bytes.now c.args.fields))
+    (step_unknown (unpack c.args.words.now) (call_in c.args.bytes.now c.args.fields)
     rest.0.0.0.0.0.0.0.0.0.0.0.0.1 rest.0.0.0.0.0.0.0.0.0.0.0.1 rest.0.0.0.0.0.0.0.0.0.0.1 rest.0.0.0.0.0.0.0.0.0.1
     rest.0.0.0.0.0.0.0.0.1 rest.0.0.0.0.0.0.0.1 rest.0.0.0.0.0.0.1 rest.0.0.0.0.0.1 rest.0.0.0.0.1
     rest.0.0.0.1 rest.0.0.1 rest.0.1 rest.1)

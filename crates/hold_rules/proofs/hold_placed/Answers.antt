@@ -6,7 +6,8 @@ pub returns-then-directory-eq0 : goal.returns-then-directory-eq0
 returns-then-directory-eq0 c = no_hold_there c.args.words.now c.args.row c.hold_directory-directory.ensures c.if-directory-eq0.true
 
 pub returns-then-node_kind-ne-DIRECTORY : goal.returns-then-node_kind-ne-DIRECTORY
-returns-then-node_kind-ne-DIRECTORY c = hold_no_directory c.args.words.now c.args.row c.hold_directory-directory.ensures c.if-directory-eq0.false c.node_kind.ensures c.if-node_kind-ne-DIRECTORY.true
+returns-then-node_kind-ne-DIRECTORY c =
+    hold_no_directory c.args.words.now c.args.row c.hold_directory-directory.ensures c.if-directory-eq0.false c.node_kind.ensures c.if-node_kind-ne-DIRECTORY.true
 
 pub returns-then-process-eq0 : goal.returns-then-process-eq0
 returns-then-process-eq0 c =

@@ -28,7 +28,8 @@ is_in_the_way-requires c = let pre = c.requires in (pre.0, (omega arith, pre.1))
 pub returns-then-is_in_the_way : goal.returns-then-is_in_the_way
 returns-then-is_in_the_way c =
     let words = c.args.words.now in
-    any_met ((in_the_way (unpack c.args.words.now).processes c.args.scope c.args.user)) no_hold (unpack words).holds (c.loop-pair.pair * 2) (omega (arith, holds_full words)) c.is_in_the_way.ensures c.if-is_in_the_way.true
+    any_met (in_the_way (unpack c.args.words.now).processes c.args.scope c.args.user) no_hold (unpack words).holds (c.loop-pair.pair * 2)
+    (omega (arith, holds_full words)) c.is_in_the_way.ensures c.if-is_in_the_way.true
     c.loop-pair.invariant.1
 
 pub may_be_covered-requires-in-loop-pair : goal.may_be_covered-requires-in-loop-pair
@@ -84,4 +85,5 @@ loop-pair-preserved c =
 pub returns : goal.returns
 returns c =
     let words = c.args.words.now in
-    any_nowhere ((in_the_way (unpack c.args.words.now).processes c.args.scope c.args.user)) no_hold (unpack words).holds (c.loop-pair.pair * 2) (omega (arith, holds_full words)) c.loop-pair.invariant.1
+    any_nowhere (in_the_way (unpack c.args.words.now).processes c.args.scope c.args.user) no_hold (unpack words).holds (c.loop-pair.pair * 2)
+    (omega (arith, holds_full words)) c.loop-pair.invariant.1

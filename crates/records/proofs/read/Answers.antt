@@ -18,21 +18,21 @@ overflow_add-taken c = omega arith
 
 pub returns-then-bytes-taken : goal.returns-then-bytes-taken
 returns-then-bytes-taken c =
-    sym (no_paths ((record {
+    sym (no_paths (record {
       head_is = c.head_of-head.ensures;
       path1_is = c.path1_length-length1.ensures;
       path2_is = c.path2_length-length2.ensures;
       head_there = c.if-bytes-lt-HEAD_LENGTH.false;
-    })) c.if-bytes-taken.true)
+    }) c.if-bytes-taken.true)
 
 pub returns-then-number-ne0 : goal.returns-then-number-ne0
 returns-then-number-ne0 c =
-    sym (fields_refused ((record {
+    sym (fields_refused (record {
       head_is = c.head_of-head.ensures;
       path1_is = c.path1_length-length1.ensures;
       path2_is = c.path2_length-length2.ensures;
       head_there = c.if-bytes-lt-HEAD_LENGTH.false;
-    })) c.if-bytes-taken.false _ _ c.numbers_of-numbers.ensures c.fault-number.ensures c.if-number-ne0.true)
+    }) c.if-bytes-taken.false _ _ c.numbers_of-numbers.ensures c.fault-number.ensures c.if-number-ne0.true)
 
 pub placed-fields-requires : goal.placed-fields-requires
 unfolding bits
@@ -41,9 +41,9 @@ placed-fields-requires c = omega arith
 pub returns : goal.returns
 returns c =
     rw c.placed-fields.ensures
-    (sym (fields_accepted ((record {
+    (sym (fields_accepted (record {
       head_is = c.head_of-head.ensures;
       path1_is = c.path1_length-length1.ensures;
       path2_is = c.path2_length-length2.ensures;
       head_there = c.if-bytes-lt-HEAD_LENGTH.false;
-    })) c.if-bytes-taken.false _ _ c.numbers_of-numbers.ensures c.fault-number.ensures c.if-number-ne0.false))
+    }) c.if-bytes-taken.false _ _ c.numbers_of-numbers.ensures c.fault-number.ensures c.if-number-ne0.false))

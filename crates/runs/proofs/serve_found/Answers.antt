@@ -21,7 +21,7 @@ serve_call-requires c =
     let tested = c.requires.0 in
     record {
       sound = sym tested.right ∙ c.if-not-is_sound.false;
-      indexed = tested.indexed (c.if-not-is_sound.false);
+      indexed = tested.indexed c.if-not-is_sound.false;
       bytes = each_by_place c.args.bytes.now 0 (λ i h. omega (arith, c.type_inv.bytes i));
       taken = _;
       read = sym c.requires.1.0 ∙ c.in-Accepted.is;
@@ -42,5 +42,5 @@ returns-in-Accepted c =
     let found = c.requires.1 in (
       judged_call c.args.words.now c.args.bytes.now c.args.found found.0 refl found.1 tested.right
           (ap not c.if-not-is_sound.false) c.in-Accepted.is c.serve_call.ensures.0,
-      tested_as (c.if-not-is_sound.false) c.serve_call.ensures.1,
+      tested_as c.if-not-is_sound.false c.serve_call.ensures.1,
     )

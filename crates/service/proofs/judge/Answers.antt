@@ -19,7 +19,7 @@ pub dispatch-requires : goal.dispatch-requires
 dispatch-requires c =
     λ known. record {
       sound = sym c.sound_and_index.ensures.0 ∙ c.if-not-sound_and_index.false;
-      indexed = c.sound_and_index.ensures.1 (c.if-not-sound_and_index.false);
+      indexed = c.sound_and_index.ensures.1 c.if-not-sound_and_index.false;
       bytes = each_by_place c.args.bytes.now 0 (λ i h. omega (arith, c.type_inv.bytes i));
       taken = _;
       read = sym c.requires ∙ c.in-Accepted.is;

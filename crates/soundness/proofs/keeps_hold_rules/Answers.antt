@@ -10,7 +10,7 @@ pub returns-then-not-index_processes : goal.returns-then-not-index_processes
 returns-then-not-index_processes c = stopped _ (sym c.index_processes.ensures.0 ∙ c.if-not-index_processes.true)
 
 pub holds_placed-requires : goal.holds_placed-requires
-holds_placed-requires c = (c.index_processes.ensures.1 (c.if-not-index_processes.false), c.used_hold_rows-rows.ensures)
+holds_placed-requires c = (c.index_processes.ensures.1 c.if-not-index_processes.false, c.used_hold_rows-rows.ensures)
 
 pub returns-then-not-holds_placed : goal.returns-then-not-holds_placed
 returns-then-not-holds_placed c =
@@ -24,7 +24,7 @@ returns-then-not-holds_apart c =
     (stopped _ (sym c.holds_apart.ensures ∙ c.if-not-holds_apart.true)))
 
 pub ends_agree-requires : goal.ends_agree-requires
-ends_agree-requires c = (c.index_processes.ensures.1 (c.if-not-index_processes.false), c.used_hold_rows-rows.ensures)
+ends_agree-requires c = (c.index_processes.ensures.1 c.if-not-index_processes.false, c.used_hold_rows-rows.ensures)
 
 pub returns : goal.returns
 returns c =

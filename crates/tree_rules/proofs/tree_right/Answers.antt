@@ -9,7 +9,9 @@ pub returns-then-not-entries_lead : goal.returns-then-not-entries_lead
 returns-then-not-entries_lead c = stopped _ (sym c.entries_lead.ensures ∙ not_true _ (ap not c.if-not-entries_lead.true))
 
 pub returns-then-not-first_right : goal.returns-then-not-first_right
-returns-then-not-first_right c = passed (sym c.entries_lead.ensures ∙ not_false _ (ap not c.if-not-entries_lead.false)) (stopped _ (sym c.first_right.ensures ∙ not_true _ (ap not c.if-not-first_right.true)))
+returns-then-not-first_right c =
+    passed (sym c.entries_lead.ensures ∙ not_false _ (ap not c.if-not-entries_lead.false))
+    (stopped _ (sym c.first_right.ensures ∙ not_true _ (ap not c.if-not-first_right.true)))
 
 pub returns-then-not-all_counts_right : goal.returns-then-not-all_counts_right
 returns-then-not-all_counts_right c =

@@ -17,28 +17,35 @@ returns-then-is_absent c = refused_at (at_first _ _) _ _ _ refl c.is_absent.ensu
 
 pub returns-then-is_present : goal.returns-then-is_present
 unfolding link_at
-returns-then-is_present c = refused_at ((past_test (at_first _ _) _ _ _ refl c.is_absent.ensures c.if-is_absent.false)) _ _ _ refl c.is_present.ensures c.if-is_present.true
+returns-then-is_present c = refused_at (past_test (at_first _ _) _ _ _ refl c.is_absent.ensures c.if-is_absent.false) _ _ _ refl c.is_present.ensures c.if-is_present.true
 
 pub leads_to_directory-requires : goal.leads_to_directory-requires
 leads_to_directory-requires c = c.requires.0.stands
 
 pub returns-then-leads_to_directory : goal.returns-then-leads_to_directory
 unfolding link_at
-returns-then-leads_to_directory c = refused_at ((past_test ((past_test (at_first _ _) _ _ _ refl c.is_absent.ensures c.if-is_absent.false)) _ _ _ refl c.is_present.ensures c.if-is_present.false)) _ _ _ refl c.leads_to_directory.ensures c.if-leads_to_directory.true
+returns-then-leads_to_directory c =
+    refused_at (past_test (past_test (at_first _ _) _ _ _ refl c.is_absent.ensures c.if-is_absent.false) _ _ _ refl c.is_present.ensures c.if-is_present.false)
+    _ _ _ refl c.leads_to_directory.ensures c.if-leads_to_directory.true
 
 pub is_blocked-requires : goal.is_blocked-requires
 is_blocked-requires c = c.requires.0
 
 pub returns-then-is_blocked : goal.returns-then-is_blocked
 unfolding link_at
-returns-then-is_blocked c = refused_at ((past_test ((past_test ((past_test (at_first _ _) _ _ _ refl c.is_absent.ensures c.if-is_absent.false)) _ _ _ refl c.is_present.ensures c.if-is_present.false)) _ _ _ refl c.leads_to_directory.ensures c.if-leads_to_directory.false)) _ _ _ refl c.is_blocked.ensures c.if-is_blocked.true
+returns-then-is_blocked c =
+    refused_at (past_test (past_test (past_test (at_first _ _) _ _ _ refl c.is_absent.ensures c.if-is_absent.false) _ _ _ refl c.is_present.ensures c.if-is_present.false)
+    _ _ _ refl c.leads_to_directory.ensures c.if-leads_to_directory.false) _ _ _ refl c.is_blocked.ensures c.if-is_blocked.true
 
 pub lacks_entry_row-requires : goal.lacks_entry_row-requires
 lacks_entry_row-requires c = c.requires.0.stands
 
 pub returns-then-lacks_entry_row : goal.returns-then-lacks_entry_row
 unfolding link_at
-returns-then-lacks_entry_row c = refused_at ((past_test ((past_test ((past_test ((past_test (at_first _ _) _ _ _ refl c.is_absent.ensures c.if-is_absent.false)) _ _ _ refl c.is_present.ensures c.if-is_present.false)) _ _ _ refl c.leads_to_directory.ensures c.if-leads_to_directory.false)) _ _ _ refl c.is_blocked.ensures c.if-is_blocked.false)) _ _ _ refl c.lacks_entry_row.ensures c.if-lacks_entry_row.true
+returns-then-lacks_entry_row c =
+    refused_at (past_test (past_test (past_test (past_test (at_first _ _) _ _ _ refl c.is_absent.ensures c.if-is_absent.false)
+    _ _ _ refl c.is_present.ensures c.if-is_present.false) _ _ _ refl c.leads_to_directory.ensures c.if-leads_to_directory.false)
+    _ _ _ refl c.is_blocked.ensures c.if-is_blocked.false) _ _ _ refl c.lacks_entry_row.ensures c.if-lacks_entry_row.true
 
 pub plan_holds-plan-requires : goal.plan_holds-plan-requires
 plan_holds-plan-requires c =
@@ -52,7 +59,10 @@ pub returns-then-lacks_room : goal.returns-then-lacks_room
 unfolding link_at
 returns-then-lacks_room c =
     let t = unpack c.args.words.now in
-    refused_at ((past_test ((past_test ((past_test ((past_test ((past_test (at_first _ _) _ _ _ refl c.is_absent.ensures c.if-is_absent.false)) _ _ _ refl c.is_present.ensures c.if-is_present.false)) _ _ _ refl c.leads_to_directory.ensures c.if-leads_to_directory.false)) _ _ _ refl c.is_blocked.ensures c.if-is_blocked.false)) _ _ _ refl c.lacks_entry_row.ensures c.if-lacks_entry_row.false)) _ _ _ refl (c.lacks_room.ensures ∙ ap (no_room t) c.plan_holds-plan.ensures.is) c.if-lacks_room.true
+    refused_at (past_test (past_test (past_test (past_test (past_test (at_first _ _) _ _ _ refl c.is_absent.ensures c.if-is_absent.false)
+    _ _ _ refl c.is_present.ensures c.if-is_present.false) _ _ _ refl c.leads_to_directory.ensures c.if-leads_to_directory.false)
+    _ _ _ refl c.is_blocked.ensures c.if-is_blocked.false) _ _ _ refl c.lacks_entry_row.ensures c.if-lacks_entry_row.false) _ _ _ refl
+    (c.lacks_room.ensures ∙ ap (no_room t) c.plan_holds-plan.ensures.is) c.if-lacks_room.true
 
 pub take_overruling-requires : goal.take_overruling-requires
 take_overruling-requires c = (c.requires.0, c.plan_holds-plan.ensures)
@@ -82,5 +92,8 @@ returns c =
     let same = ap (λ k. set_node k (one_more (node_at t.nodes k)) t.nodes) is in
     let changed = entered t (goal_of c.args.new) c.args.caller.process more old is same
     c.take_overruling.ensures c.add_entry.ensures c.add_one_entry.ensures in
-    ((let t = unpack c.args.words.now in
-    past_test ((past_test ((past_test ((past_test ((past_test ((past_test (at_first _ _) _ _ _ refl c.is_absent.ensures c.if-is_absent.false)) _ _ _ refl c.is_present.ensures c.if-is_present.false)) _ _ _ refl c.leads_to_directory.ensures c.if-leads_to_directory.false)) _ _ _ refl c.is_blocked.ensures c.if-is_blocked.false)) _ _ _ refl c.lacks_entry_row.ensures c.if-lacks_entry_row.false)) _ _ _ refl (c.lacks_room.ensures ∙ ap (no_room t) c.plan_holds-plan.ensures.is) c.if-lacks_room.false)).meets (grants (ap Done is) changed)
+    (let t = unpack c.args.words.now in
+    past_test (past_test (past_test (past_test (past_test (past_test (at_first _ _) _ _ _ refl c.is_absent.ensures c.if-is_absent.false)
+    _ _ _ refl c.is_present.ensures c.if-is_present.false) _ _ _ refl c.leads_to_directory.ensures c.if-leads_to_directory.false)
+    _ _ _ refl c.is_blocked.ensures c.if-is_blocked.false) _ _ _ refl c.lacks_entry_row.ensures c.if-lacks_entry_row.false) _ _ _ refl
+    (c.lacks_room.ensures ∙ ap (no_room t) c.plan_holds-plan.ensures.is) c.if-lacks_room.false).meets (grants (ap Done is) changed)

@@ -22,14 +22,16 @@ is_blocked-requires c = c.requires.0
 
 pub returns-then-is_blocked : goal.returns-then-is_blocked
 unfolding make_at
-returns-then-is_blocked c = refused_at ((past_test (at_first _ _) _ _ _ refl c.is_present.ensures c.if-is_present.false)) _ _ _ refl c.is_blocked.ensures c.if-is_blocked.true
+returns-then-is_blocked c = refused_at (past_test (at_first _ _) _ _ _ refl c.is_present.ensures c.if-is_present.false) _ _ _ refl c.is_blocked.ensures c.if-is_blocked.true
 
 pub lacks_rows-requires : goal.lacks_rows-requires
 lacks_rows-requires c = c.requires.0.stands
 
 pub returns-then-lacks_rows : goal.returns-then-lacks_rows
 unfolding make_at
-returns-then-lacks_rows c = refused_at ((past_test ((past_test (at_first _ _) _ _ _ refl c.is_present.ensures c.if-is_present.false)) _ _ _ refl c.is_blocked.ensures c.if-is_blocked.false)) _ _ _ refl c.lacks_rows.ensures c.if-lacks_rows.true
+returns-then-lacks_rows c =
+    refused_at (past_test (past_test (at_first _ _) _ _ _ refl c.is_present.ensures c.if-is_present.false) _ _ _ refl c.is_blocked.ensures c.if-is_blocked.false)
+    _ _ _ refl c.lacks_rows.ensures c.if-lacks_rows.true
 
 pub plan_holds-plan-requires : goal.plan_holds-plan-requires
 plan_holds-plan-requires c =
@@ -43,16 +45,28 @@ pub returns-then-lacks_room : goal.returns-then-lacks_room
 unfolding make_at
 returns-then-lacks_room c =
     let t = unpack c.args.words.now in
-    refused_at ((past_test ((past_test ((past_test (at_first _ _) _ _ _ refl c.is_present.ensures c.if-is_present.false)) _ _ _ refl c.is_blocked.ensures c.if-is_blocked.false)) _ _ _ refl c.lacks_rows.ensures c.if-lacks_rows.false)) _ _ _ refl (c.lacks_room.ensures ∙ ap (no_room t) c.plan_holds-plan.ensures.is) c.if-lacks_room.true
+    refused_at (past_test (past_test (past_test (at_first _ _) _ _ _ refl c.is_present.ensures c.if-is_present.false)
+    _ _ _ refl c.is_blocked.ensures c.if-is_blocked.false) _ _ _ refl c.lacks_rows.ensures c.if-lacks_rows.false) _ _ _ refl
+    (c.lacks_room.ensures ∙ ap (no_room t) c.plan_holds-plan.ensures.is) c.if-lacks_room.true
 
 pub free_node_row-row-requires : goal.free_node_row-row-requires
 free_node_row-row-requires c = c.requires.0.stands
 
 pub overflow_add-node : goal.overflow_add-node
-overflow_add-node c = omega (arith, (let it : c.free_node_row-row.result < node_rows = node_row_there c.args.words.now c.free_node_row-row.ensures c.lacks_rows.ensures c.if-lacks_rows.false in it))
+overflow_add-node c =
+    omega (
+      arith,
+      (let it : c.free_node_row-row.result < node_rows = node_row_there c.args.words.now c.free_node_row-row.ensures c.lacks_rows.ensures
+          c.if-lacks_rows.false in it),
+    )
 
 pub overflow_cast-node : goal.overflow_cast-node
-overflow_cast-node c = omega (arith, (let it : c.free_node_row-row.result < node_rows = node_row_there c.args.words.now c.free_node_row-row.ensures c.lacks_rows.ensures c.if-lacks_rows.false in it))
+overflow_cast-node c =
+    omega (
+      arith,
+      (let it : c.free_node_row-row.result < node_rows = node_row_there c.args.words.now c.free_node_row-row.ensures c.lacks_rows.ensures
+          c.if-lacks_rows.false in it),
+    )
 
 pub take_overruling-requires : goal.take_overruling-requires
 take_overruling-requires c = (c.requires.0, c.plan_holds-plan.ensures)
@@ -64,8 +78,14 @@ add_entry-requires c =
 
 pub set_node-requires : goal.set_node-requires
 set_node-requires c =
-    let kind = c.requires.1 in
-    (c.add_entry.ensures.stands, ((let it : c.free_node_row-row.result < node_rows = node_row_there c.args.words.now c.free_node_row-row.ensures c.lacks_rows.ensures c.if-lacks_rows.false in it), (kind.0, (kind.1.0, (omega arith, kind.1.1)))))
+    let kind = c.requires.1 in (
+      c.add_entry.ensures.stands,
+      (
+        (let it : c.free_node_row-row.result < node_rows = node_row_there c.args.words.now c.free_node_row-row.ensures c.lacks_rows.ensures
+            c.if-lacks_rows.false in it),
+        (kind.0, (kind.1.0, (omega arith, kind.1.1))),
+      ),
+    )
 
 pub returns : goal.returns
 unfolding make_at
@@ -76,5 +96,7 @@ returns c =
     let number = node_number w c.free_node_row-row.ensures in
     let changed = entered (unpack w) (goal_of start.args.walk) start.args.caller.process (λ l. set l c.free_node_row-row.result node) node number
     (node_made w c.free_node_row-row.ensures node) c.take_overruling.ensures c.add_entry.ensures c.set_node.ensures in
-    ((let t = unpack c.args.words.now in
-    past_test ((past_test ((past_test ((past_test (at_first _ _) _ _ _ refl c.is_present.ensures c.if-is_present.false)) _ _ _ refl c.is_blocked.ensures c.if-is_blocked.false)) _ _ _ refl c.lacks_rows.ensures c.if-lacks_rows.false)) _ _ _ refl (c.lacks_room.ensures ∙ ap (no_room t) c.plan_holds-plan.ensures.is) c.if-lacks_room.false)).meets (grants (ap Done number) changed)
+    (let t = unpack c.args.words.now in
+    past_test (past_test (past_test (past_test (at_first _ _) _ _ _ refl c.is_present.ensures c.if-is_present.false)
+    _ _ _ refl c.is_blocked.ensures c.if-is_blocked.false) _ _ _ refl c.lacks_rows.ensures c.if-lacks_rows.false) _ _ _ refl
+    (c.lacks_room.ensures ∙ ap (no_room t) c.plan_holds-plan.ensures.is) c.if-lacks_room.false).meets (grants (ap Done number) changed)

@@ -20,11 +20,11 @@ pub returns-then-is_seen : goal.returns-then-is_seen
 unfolding look_at
 returns-then-is_seen c =
     let seen = is_seen (unpack c.args.words.now) c.args.caller.process (goal_of c.args.walk) c.is_seen.ensures c.if-is_seen.true in
-    ((past_test (at_first _ _) _ _ _ refl c.is_missing.ensures c.if-is_missing.false)).meets (meets_as seen (grants (ap Seen c.node_of-node.ensures) (unchanged c.requires.stands)))
+    (past_test (at_first _ _) _ _ _ refl c.is_missing.ensures c.if-is_missing.false).meets (meets_as seen (grants (ap Seen c.node_of-node.ensures) (unchanged c.requires.stands)))
 
 pub plan_holds-plan-requires : goal.plan_holds-plan-requires
 plan_holds-plan-requires c =
-    let behind = ((c)).requires in
+    let behind = (c).requires in
     (behind.stands, (behind.named, behind.used))
 
 pub lacks_room-requires : goal.lacks_room-requires
@@ -33,24 +33,26 @@ lacks_room-requires c = (((c)).requires.stands, c.plan_holds-plan.ensures.planne
 pub returns-then-lacks_room : goal.returns-then-lacks_room
 unfolding look_at hold_at
 returns-then-lacks_room c =
-    let t = unpack ((c)).args.words.now in
-    refused_at ((let start = (c) in
+    let t = unpack (c).args.words.now in
+    refused_at (let start = (c) in
     let t = unpack start.args.words.now in
     let p = start.args.caller.process in
     let g = goal_of start.args.walk in
     let there = (past_test (at_first _ _) _ _ _ refl c.is_missing.ensures c.if-is_missing.false) in
-    record { rest = hold_at t p g; meets = λ m. there.meets (meets_as (is_held t p g c.is_seen.ensures c.if-is_seen.false) m) })) _ _ _ refl (c.lacks_room.ensures ∙ ap (no_room t) c.plan_holds-plan.ensures.is) c.if-lacks_room.true
+    record { rest = hold_at t p g; meets = λ m. there.meets (meets_as (is_held t p g c.is_seen.ensures c.if-is_seen.false) m) }) _ _ _ refl
+    (c.lacks_room.ensures ∙ ap (no_room t) c.plan_holds-plan.ensures.is) c.if-lacks_room.true
 
 pub take_preempting-requires : goal.take_preempting-requires
-take_preempting-requires c = ((((c))).requires, c.plan_holds-plan.ensures)
+take_preempting-requires c = (((c)).requires, c.plan_holds-plan.ensures)
 
 pub returns : goal.returns
 unfolding look_at hold_at
 returns c =
-    ((let t = unpack (((c))).args.words.now in
-    past_test ((let start = (c) in
+    (let t = unpack (c).args.words.now in
+    past_test (let start = (c) in
     let t = unpack start.args.words.now in
     let p = start.args.caller.process in
     let g = goal_of start.args.walk in
     let there = (past_test (at_first _ _) _ _ _ refl c.is_missing.ensures c.if-is_missing.false) in
-    record { rest = hold_at t p g; meets = λ m. there.meets (meets_as (is_held t p g c.is_seen.ensures c.if-is_seen.false) m) })) _ _ _ refl (c.lacks_room.ensures ∙ ap (no_room t) c.plan_holds-plan.ensures.is) c.if-lacks_room.false)).meets (grants (ap Held c.node_of-node.ensures) c.take_preempting.ensures)
+    record { rest = hold_at t p g; meets = λ m. there.meets (meets_as (is_held t p g c.is_seen.ensures c.if-is_seen.false) m) }) _ _ _ refl
+    (c.lacks_room.ensures ∙ ap (no_room t) c.plan_holds-plan.ensures.is) c.if-lacks_room.false).meets (grants (ap Held c.node_of-node.ensures) c.take_preempting.ensures)
