@@ -5,7 +5,14 @@ use warnings;
 use utf8;
 use Edits qw(text_of);
 use Exporter 'import';
-our @EXPORT = qw(own_errors fact_of is_of_form);
+our @EXPORT = qw(verdict_of own_errors fact_of is_of_form);
+
+# Whether the crate is proved: `proved`, `not-proved`, or nothing where the prover gave no verdict. The crates below, where they are built first, have theirs above.
+sub verdict_of {
+    my ($log) = @_;
+    my @verdicts = $log =~ /^logic=(proved|not-proved)\b/mg;
+    return @verdicts ? $verdicts[-1] : '';
+}
 
 # The functions of a crate that call one another, each with the name of its cycle, `#[cycle(NAME)]`: they have one proof, whose goals begin with the function's name.
 my %cycles;
