@@ -76,8 +76,9 @@ sub functions_of_source {
     my (@found, $inside);
     my $signs = '';
     $text =~ s{//.*$}{}mg;
+    $text =~ s/^(?:pub )?(?:ghost )?use\s[^;]*;[ \t]*$//mg;
     for my $line (split /\n/, $text) {
-        next if $line =~ /^(?:pub )?(?:ghost )?(?:use|mod)\s/ || $line !~ /\S/;
+        next if $line =~ /^(?:pub )?mod\s|^#!\[/ || $line !~ /\S/;
         if ($line =~ /^#\[/) { $signs .= "$line "; next }
         if ($line =~ /^((?:pub(?:\([a-z]+\))? )?)(?:ghost )?(?:extern "C" )?(fn|struct|enum|const|static|type) (\w+)/) {
             push @found, { is_pub => $1 eq 'pub ' ? 1 : 0, is_fn => $2 eq 'fn' ? 1 : 0, name => $3, promise => $signs, body => '' };

@@ -46,8 +46,8 @@ impl Claim {
     /// The module that states and computes the claim.
     pub fn module(&self) -> String {
         let definition = match self.over {
-            Over::Rows => "rows-agree",
-            Over::Words => "words-agree",
+            Over::Rows => "rows_agree",
+            Over::Words => "words_agree",
         };
         let lists: Vec<String> = self.records.iter().map(|record| list(record)).collect();
         let mut answered = String::new();
@@ -57,7 +57,7 @@ impl Claim {
         format!(
             "{}unfoldable start : List ℕ\nstart = {}\n\nunfoldable records : List (List ℕ)\nrecords = {}\n\nunfoldable end : List ℕ\nend = {}\n\n\
              agrees : {definition} start records \"{answered}\" {} end ≡ true\n\
-             unfolding computing-traces start records end\nagrees = refl\n",
+             unfolding computing_traces start records end\nagrees = refl\n",
             header(definition),
             words(&self.start),
             chain(&lists),
@@ -97,10 +97,10 @@ fn one(over: Over, words: &mut [u32], record: &[u8]) -> (Answer, usize) {
 pub fn header(definition: &str) -> String {
     format!(
         "-- What the reference answered, for the model to compute. Assumes nothing.\n\
-         use mathlib.Core.Path.{{_≡_, refl}}\nuse mathlib.Core.Bool.{{Bool, true}}\n\
-         use mathlib.Core.List.{{List, [], _∷_, _++_}}\nuse Prim.Native.Nat.{{ℕ}}\n\
+         use mathlib.Core.Path.{{◌≡◌, refl}}\nuse mathlib.Core.Bool.{{Bool, true}}\n\
+         use mathlib.Core.List.{{List, [], ◌∷◌, ◌++◌}}\nuse Prim.Native.Nat.{{ℕ}}\n\
          use lib.ListN.{{replicate}}\n\
-         use Rattle·traces·proofs.proofs.Playing.{{{definition}, computing-traces}}\n\n"
+         use Rattle.traces.proofs.Playing.{{{definition}, computing_traces}}\n\n"
     )
 }
 

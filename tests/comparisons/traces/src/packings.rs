@@ -13,7 +13,7 @@ const FILLING: u8 = 238;
 /// The module with all of them, and how often each answer came.
 pub fn module() -> (String, BTreeMap<String, usize>) {
     let mut random = Random::new(18);
-    let mut text = header("packing-agrees");
+    let mut text = header("packing_agrees");
     let mut counts = BTreeMap::new();
     for place in 0..PACKINGS {
         let (claim, answer) = one(&mut random, place);
@@ -41,8 +41,8 @@ fn one(random: &mut Random, place: usize) -> (String, String) {
         Err(number) => (format!("(1 ∷ {number} ∷ [])"), format!("refused {number}")),
     };
     let claim = format!(
-        "agrees-{place} : packing-agrees (record {{ call = {call}; process = {process}; argument = {argument}; path1 = {}; path2 = {}; zeros = 0 }}) {size} {given} {} ≡ true\n\
-         unfolding computing-traces\nagrees-{place} = refl\n\n",
+        "agrees_{place} : packing_agrees (record {{ call = {call}; process = {process}; argument = {argument}; path1 = {}; path2 = {}; zeros = 0 }}) {size} {given} {} ≡ true\n\
+         unfolding computing_traces\nagrees_{place} = refl\n\n",
         list(&path1),
         list(&path2),
         list(&destination),
