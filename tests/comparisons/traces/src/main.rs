@@ -38,7 +38,10 @@ fn write(folder: &Path) -> std::io::Result<bool> {
         fs::create_dir_all(home.join(part))?;
     }
     fs::create_dir_all(folder.join("stories"))?;
-    fs::write(home.join("src/lib.rt"), "#![tactic(auto)]\n// No code: the claims stand in proofs/.\n")?;
+    fs::write(
+        home.join("src/lib.rt"),
+        "#![tactic(auto)]\n// No code: the claims stand in proofs/.\n",
+    )?;
     fs::write(home.join("specs/Lib.antt"), "")?;
     fs::write(home.join("proofs/Playing.antt"), PLAYING)?;
     let (packings, mut counts) = packings::module();
