@@ -24,17 +24,17 @@ returns-then-is_seen c =
 
 pub plan_holds-plan-requires : goal.plan_holds-plan-requires
 plan_holds-plan-requires c =
-    let behind = (c).requires in
+    let behind = c.requires in
     (behind.stands, (behind.named, behind.used))
 
 pub lacks_room-requires : goal.lacks_room-requires
-lacks_room-requires c = (((c)).requires.stands, c.plan_holds-plan.ensures.planned)
+lacks_room-requires c = (c.requires.stands, c.plan_holds-plan.ensures.planned)
 
 pub returns-then-lacks_room : goal.returns-then-lacks_room
 unfolding look_at hold_at
 returns-then-lacks_room c =
-    let t = unpack (c).args.words.now in
-    refused_at (let start = (c) in
+    let t = unpack c.args.words.now in
+    refused_at (let start = c in
     let t = unpack start.args.words.now in
     let p = start.args.caller.process in
     let g = goal_of start.args.walk in
@@ -43,13 +43,13 @@ returns-then-lacks_room c =
     (c.lacks_room.ensures ∙ ap (no_room t) c.plan_holds-plan.ensures.is) c.if-lacks_room.true
 
 pub take_preempting-requires : goal.take_preempting-requires
-take_preempting-requires c = (((c)).requires, c.plan_holds-plan.ensures)
+take_preempting-requires c = (c.requires, c.plan_holds-plan.ensures)
 
 pub returns : goal.returns
 unfolding look_at hold_at
 returns c =
-    (let t = unpack (c).args.words.now in
-    past_test (let start = (c) in
+    (let t = unpack c.args.words.now in
+    past_test (let start = c in
     let t = unpack start.args.words.now in
     let p = start.args.caller.process in
     let g = goal_of start.args.walk in

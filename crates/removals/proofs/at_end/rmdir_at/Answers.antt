@@ -21,49 +21,49 @@ unfolding rmdir_at
 returns-then-is_no_directory c = refused_at (past_test (at_first _ _) _ _ _ refl c.is_absent.ensures c.if-is_absent.false) _ _ _ refl c.is_no_directory.ensures c.if-is_no_directory.true
 
 pub has_any_entry-requires : goal.has_any_entry-requires
-has_any_entry-requires c = (c).requires.stands
+has_any_entry-requires c = c.requires.stands
 
 pub returns-then-has_any_entry : goal.returns-then-has_any_entry
 unfolding rmdir_at
 returns-then-has_any_entry c =
-    let t = unpack (c).args.words.now in
+    let t = unpack c.args.words.now in
     refused_at (past_test (past_test (at_first _ _) _ _ _ refl c.is_absent.ensures c.if-is_absent.false) _ _ _ refl c.is_no_directory.ensures c.if-is_no_directory.false)
     _ _ _ refl (c.has_any_entry.ensures ∙ ap (has_entries t.entries) c.node_of-node.ensures) c.if-has_any_entry.true
 
 pub is_directory_blocked-requires : goal.is_directory_blocked-requires
-is_directory_blocked-requires c = (c).requires
+is_directory_blocked-requires c = c.requires
 
 pub returns-then-is_directory_blocked : goal.returns-then-is_directory_blocked
 unfolding rmdir_at
 returns-then-is_directory_blocked c =
-    refused_at (let t = unpack (c).args.words.now in
+    refused_at (let t = unpack c.args.words.now in
     past_test (past_test (past_test (at_first _ _) _ _ _ refl c.is_absent.ensures c.if-is_absent.false) _ _ _ refl c.is_no_directory.ensures c.if-is_no_directory.false)
     _ _ _ refl (c.has_any_entry.ensures ∙ ap (has_entries t.entries) c.node_of-node.ensures) c.if-has_any_entry.false)
     _ _ _ refl c.is_directory_blocked.ensures c.if-is_directory_blocked.true
 
 pub plan_holds-plan-requires : goal.plan_holds-plan-requires
 plan_holds-plan-requires c =
-    let behind = (c).requires in
+    let behind = c.requires in
     (behind.stands, (behind.named, behind.used))
 
 pub lacks_room-requires : goal.lacks_room-requires
-lacks_room-requires c = (((c)).requires.stands, c.plan_holds-plan.ensures.planned)
+lacks_room-requires c = (c.requires.stands, c.plan_holds-plan.ensures.planned)
 
 pub returns-then-lacks_room : goal.returns-then-lacks_room
 unfolding rmdir_at
 returns-then-lacks_room c =
-    let t = unpack (c).args.words.now in
-    refused_at (past_test (let t = unpack (c).args.words.now in
+    let t = unpack c.args.words.now in
+    refused_at (past_test (let t = unpack c.args.words.now in
     past_test (past_test (past_test (at_first _ _) _ _ _ refl c.is_absent.ensures c.if-is_absent.false) _ _ _ refl c.is_no_directory.ensures c.if-is_no_directory.false)
     _ _ _ refl (c.has_any_entry.ensures ∙ ap (has_entries t.entries) c.node_of-node.ensures) c.if-has_any_entry.false)
     _ _ _ refl c.is_directory_blocked.ensures c.if-is_directory_blocked.false) _ _ _ refl
     (c.lacks_room.ensures ∙ ap (no_room t) c.plan_holds-plan.ensures.is) c.if-lacks_room.true
 
 pub take_emptying-requires : goal.take_emptying-requires
-take_emptying-requires c = (((c)).requires, c.plan_holds-plan.ensures)
+take_emptying-requires c = (c.requires, c.plan_holds-plan.ensures)
 
 pub drop_entry-requires : goal.drop_entry-requires
-drop_entry-requires c = (c.take_emptying.ensures.stands, (c).requires.named)
+drop_entry-requires c = (c.take_emptying.ensures.stands, c.requires.named)
 
 pub drop_one_entry-requires : goal.drop_one_entry-requires
 drop_one_entry-requires c = c.drop_entry.ensures.stands
@@ -71,11 +71,11 @@ drop_one_entry-requires c = c.drop_entry.ensures.stands
 pub returns : goal.returns
 unfolding rmdir_at
 returns c =
-    let start = (c) in
+    let start = c in
     let changed = removed (unpack start.args.words.now) (goal_of start.args.walk) c.node_of-node.ensures c.take_emptying.ensures
     c.drop_entry.ensures c.drop_one_entry.ensures in
-    (let t = unpack (c).args.words.now in
-    past_test (past_test (let t = unpack (c).args.words.now in
+    (let t = unpack c.args.words.now in
+    past_test (past_test (let t = unpack c.args.words.now in
     past_test (past_test (past_test (at_first _ _) _ _ _ refl c.is_absent.ensures c.if-is_absent.false) _ _ _ refl c.is_no_directory.ensures c.if-is_no_directory.false)
     _ _ _ refl (c.has_any_entry.ensures ∙ ap (has_entries t.entries) c.node_of-node.ensures) c.if-has_any_entry.false)
     _ _ _ refl c.is_directory_blocked.ensures c.if-is_directory_blocked.false) _ _ _ refl
