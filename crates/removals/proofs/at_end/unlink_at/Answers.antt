@@ -63,5 +63,6 @@ returns c =
     c.drop_entry.ensures c.drop_one_entry.ensures in
     (let t = unpack c.args.words.now in
     past_test (past_test (past_test (past_test (at_first _ _) _ _ _ refl c.is_absent.ensures c.if-is_absent.false)
-    _ _ _ refl c.leads_to_directory.ensures c.if-leads_to_directory.false) _ _ _ refl c.is_blocked.ensures c.if-is_blocked.false) _ _ _ refl
+    _ _ _ refl c.leads_to_directory.ensures c.if-leads_to_directory.false)
+    _ _ _ refl c.is_blocked.ensures c.if-is_blocked.false) _ _ _ refl
     (c.lacks_room.ensures ∙ ap (no_room t) c.plan_holds-plan.ensures.is) c.if-lacks_room.false).meets (grants (ap Done c.node_of-node.ensures) changed)
