@@ -9,7 +9,7 @@ use lib.Seq.{sets, get_or-set_other, get_or-drop, length-take-le}
 use Rattle.listing.specs.declared.Part.{Part}
 use Rattle.lines.specs.Puts.{Puts}
 use Rattle.listing.specs.Parts.{filled, list_part}
-use Rattle.lines.proofs.Runs.{puts_next}
+use Rattle.lines.proofs.Runs.{puts_next, puts_length}
 use Rattle.listing.proofs.PartFacts.{answered_facts}
 
 -- what stands behind the bytes that were put is as it was
@@ -30,6 +30,16 @@ module _ {l m : List ℕ} (from i : ℕ) (p : Puts l 0 (take i (drop from l)) (0
       let z : 0 + i ≡ i = omega arith in
       let q = puts_next (drop from l) i k p in
       rw e (rw z at q)
+
+  pub put_all : {kept : ℕ} → i ≤ kept → kept ≤ i → Puts l 0 (take kept (drop from l)) kept m
+  put_all {kept} h k =
+      let e : 0 + i ≡ kept = omega arith in
+      let f : i ≡ kept = omega arith in
+      rw (e, f) at p
+
+-- what was kept is within the buffer
+pub kept_fits : (l : List ℕ) (from kept : ℕ) {m : List ℕ} {end : ℕ} → Puts l 0 (take kept (drop from l)) end m → end ≤ length m
+kept_fits l from kept p = omega (arith, p.end_is, puts_length p, length-take kept (drop from l), length-drop from l)
 
 -- THE LINES OF WHAT IS HELD: they fit the destination, and the bytes taken are among those held
 module _ (last : Bool) (w bytes : List ℕ) (held place : ℕ) (out : List ℕ) {r : Part} {v o : List ℕ}
