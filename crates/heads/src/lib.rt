@@ -1,6 +1,6 @@
 #![tactic(auto)]
 // The seven bytes with which a record begins, as one number of 56 bits, and the fields in it.
-ghost use Rattle.std.specs.Prelude.{◌≡◌, ◌++◌, ◌≤◌, ◌<◌, ◌%◌, length, drop};
+ghost use Rattle.std.specs.Prelude.{◌≡◌, ◌++◌, ◌≤◌, length, drop};
 ghost use Rattle.model.specs.Words.{bits};
 ghost use Rattle.model.specs.Records.{head_of, head_bytes};
 ghost use Rattle.fields.specs.Given.{numbers_in, HeadFits, joined_head};
@@ -20,32 +20,19 @@ const LENGTH1_UNIT: u64 = 1 << 11;
 
 const LENGTH2_UNIT: u64 = 1 << 3;
 
-fn wide(byte: u8) -> u64
-    ensures { (result ≡ byte) × (result < 256) }
-{
-    byte as u64
-}
-
-// The lowest eight bits.
-fn low(number: u64) -> u8
-    ensures { result ≡ number % 256 }
-{
-    (number % 256) as u8
-}
-
 pub fn head_of(bytes: &[u8]) -> u64
     requires { 7 ≤ length bytes.now }
     ensures { result ≡ head_of bytes.now }
 {
-    let first = (wide(bytes[0]) * 256 + wide(bytes[1])) * 256 + wide(bytes[2]);
-    let middle = wide(bytes[3]) * 256 + wide(bytes[4]);
-    let last = wide(bytes[5]) * 256 + wide(bytes[6]);
-    (first * 65536 + middle) * 65536 + last
+    u64::from_be_bytes([
+        0, bytes[0], bytes[1], bytes[2], bytes[3], bytes[4], bytes[5], bytes[6],
+    ])
 }
 
 pub fn numbers_of(head: u64) -> Numbers
     ensures { result ≡ numbers_in head }
 {
+    // stays: a field cut out of the head fits by its remainder; `try_from` would ask for a refusal that can't come, so the cast is no less plain.
     Numbers {
         call: (head / CALL_UNIT % 32) as u32,
         process: (head / PROCESS_UNIT % 65536) as u16,
@@ -57,12 +44,14 @@ pub fn numbers_of(head: u64) -> Numbers
 pub fn path1_length(head: u64) -> usize
     ensures { result ≡ bits 11 8 head }
 {
+    // stays: no plainer, the remainder fits a byte, and Rust has no `From` between u64 and usize.
     (head / LENGTH1_UNIT % 256) as usize
 }
 
 pub fn path2_length(head: u64) -> usize
     ensures { result ≡ bits 3 8 head }
 {
+    // stays: no plainer, the remainder fits a byte, and Rust has no `From` between u64 and usize.
     (head / LENGTH2_UNIT % 256) as usize
 }
 
@@ -71,21 +60,17 @@ pub fn joined_head(numbers: Numbers, length1: usize, length2: usize) -> u64
     requires { HeadFits numbers length1 length2 }
     ensures { result ≡ joined_head numbers length1 length2 }
 {
-    let high = (numbers.call as u64) * 65536 + (numbers.process as u64);
+    let high = u64::from(numbers.call) * 65536 + u64::from(numbers.process);
+    // stays: no plainer, Rust has no `From<usize>` for u64.
     let lengths = (length1 as u64) * 256 + (length2 as u64);
-    ((high * 65536 + (numbers.argument as u64)) * 65536 + lengths) * LENGTH2_UNIT
-        + (numbers.zeros as u64)
+    ((high * 65536 + u64::from(numbers.argument)) * 65536 + lengths) * LENGTH2_UNIT
+        + u64::from(numbers.zeros)
 }
 
 pub fn write_head(destination: &mut [u8], head: u64)
     requires { 7 ≤ length destination.old }
     ensures { destination.new ≡ head_bytes head ++ drop 7 destination.old }
 {
-    destination[0] = low(head / 281474976710656);
-    destination[1] = low(head / 1099511627776);
-    destination[2] = low(head / 4294967296);
-    destination[3] = low(head / 16777216);
-    destination[4] = low(head / 65536);
-    destination[5] = low(head / 256);
-    destination[6] = low(head);
+    let bytes = head.to_be_bytes();
+    destination[..HEAD_LENGTH].copy_from_slice(&bytes[1..]);
 }
