@@ -1,18 +1,13 @@
 -- What making words fresh comes to. Assumes nothing.
 use mathlib.Core.Path.{◌≡◌, refl, sym, ap, ◌∙◌}
 use mathlib.Core.List.{List}
-use Prim.Native.Nat.{ℕ, ◌+◌, ◌*◌, ◌^◌, ◌<◌}
-use native.Mathlib.Omega.{arith}
-use native.Mathlib.Nat.{zero-add}
+use Prim.Native.Nat.{ℕ, ◌*◌, ◌^◌}
 use borrow.Author.Tests.{eq-eqb, ne_eqb}
-use lib.ListN.{length, drop, set, replicate, length-replicate, get_or-replicate}
-use lib.Seq.{sets}
+use lib.ListN.{length, set, replicate}
 use Rattle.model.specs.Refusals.{refused, granted, ◌>>◌}
 use Rattle.model.specs.Tables.{a_directory}
 use Rattle.model.specs.Words.{word_count, first_node_word}
 use Rattle.model.specs.Serve.{made_fresh, fresh_words, computing}
-use Rattle.laws.proofs.Loops.{store_onward}
-use Rattle.laws.proofs.Pieces.{sets_whole}
 use Rattle.fresh.specs.declared.Prepared.TheVariants.{Ready, Refused}
 use Rattle.fresh.specs.Prepared.{answer_of, words_after, Prepares}
 
@@ -42,12 +37,3 @@ prepares w h e =
 
 pub refuses : (w : List ℕ) → (length w ≡ word_count → ⊥) → Prepares w (made_fresh w) (Refused 1) w
 refuses w h = let m = refused_of_length w h in record { answer = ap answer_of (sym m); words = ap (words_after w) (sym m) }
-
-pub all_cleared : (l : List ℕ) → sets l (0 + 0) (replicate (length l) 0) ≡ replicate (length l) 0
-all_cleared l = sets_whole l (replicate (length l) 0) (length-replicate {A = ℕ} (length l) 0)
-
-pub cleared_onward : (n : ℕ) (out : List ℕ) (k : ℕ) {v : List ℕ} → k < n → sets out (0 + k) (drop k (replicate n 0)) ≡ v
-    → sets (set out k 0) (0 + (k + 1)) (drop (k + 1) (replicate n 0)) ≡ v
-cleared_onward n out k h inv =
-    ap (λ m. sets (set out m 0) (0 + (k + 1)) (drop (k + 1) (replicate n 0))) (sym (zero-add k))
-    ∙ store_onward 0 (replicate n 0) out k 0 (omega (arith, length-replicate {A = ℕ} n 0)) (sym (get_or-replicate n k 0 0 h)) inv

@@ -8,6 +8,7 @@ use model::UNSOUND;
 use rows::{DIRECTORY, NODES_START, TOP_UNIT, WORD_COUNT};
 
 // The first word of a directory to which no entry leads.
+// stays: no plainer, a constant's value can't call `u32::from`.
 const EMPTY_DIRECTORY: u32 = DIRECTORY as u32 * TOP_UNIT;
 
 #[derive(Clone, Copy)]
@@ -19,11 +20,7 @@ pub enum Prepared {
 fn clear_all(words: &mut [u32])
     ensures { words.new ≡ replicate (length words.old) 0 }
 {
-    let mut k = 0;
-    while k < words.len() {
-        words[k] = 0;
-        k += 1;
-    }
+    words.fill(0);
 }
 
 // Makes the words fresh tables; a slice of another length is refused and left as it was.
