@@ -4,7 +4,7 @@ use mathlib.Core.Bool.{Bool, true, false, ◌&&◌}
 use mathlib.Core.List.{List, [], ◌∷◌}
 use Prim.Native.Nat.{ℕ}
 use native.Mathlib.Omega.{arith}
-use borrow.Author.Tests.{eq-eqb, ne_eqb, eqb-true}
+use borrow.Author.Tests.{eq-eqb, eqb-true}
 use lib.Dec.{eqb}
 use lib.ListN.{length, get_or}
 use Rattle.model.specs.Lists.{same}
@@ -24,24 +24,6 @@ same_when false false f g = refl
 -- TWO BLOCKS COMPARED, word by word
 
 module _ (a b : Block) where
-  pub first_differs : (a.first ≡ b.first → ⊥) → false ≡ same_block a b
-  unfolding same_block
-  first_differs n = simp (ne_eqb a.first b.first n)
-
-  module _ (p : a.first ≡ b.first) where
-    pub second_differs : (a.second ≡ b.second → ⊥) → false ≡ same_block a b
-    unfolding same_block
-    second_differs n = simp (eq-eqb a.first b.first p, ne_eqb a.second b.second n)
-
-    module _ (q : a.second ≡ b.second) where
-      pub third_differs : (a.third ≡ b.third → ⊥) → false ≡ same_block a b
-      unfolding same_block
-      third_differs n = simp (eq-eqb a.first b.first p, eq-eqb a.second b.second q, ne_eqb a.third b.third n)
-
-      pub fourth_decides : a.third ≡ b.third → eqb a.fourth b.fourth ≡ same_block a b
-      unfolding same_block
-      fourth_decides r = simp (eq-eqb a.first b.first p, eq-eqb a.second b.second q, eq-eqb a.third b.third r)
-
   pub same_block_is : same_block a b ≡ true → a ≡ b
   unfolding same_block
   same_block_is e =

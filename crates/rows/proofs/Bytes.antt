@@ -1,11 +1,13 @@
 -- Bytes to words and back, as the code does it: a name's block from its bytes, and 64 bytes from 16 words. Assumes nothing.
 use mathlib.Core.Path.{◌≡◌, refl, sym, ap, ◌∙◌}
-use mathlib.Core.List.{List, [], ◌∷◌, ◌++◌}
-use Prim.Native.Nat.{ℕ, zero, suc, ◌+◌, ◌*◌, ◌≤◌, ◌<◌}
+use mathlib.Core.List.{List, [], ◌∷◌, ◌++◌, append_assoc}
+use Prim.Native.Nat.{ℕ, zero, suc, ◌+◌, ◌*◌, ◌-◌, ◌/◌, ◌≤◌, ◌<◌}
 use native.Mathlib.Omega.{arith}
-use native.Mathlib.Numerals.{add-one, add-two, add-three}
-use lib.ListN.{length, get_or, set, take, drop, replicate, length-replicate, drop_of_length-le}
-use lib.Seq.{sets, get_or-take, drop-drop}
+use native.Mathlib.Nat.{div-one}
+use borrow.Rule.Slice.PartMut.{put_mid}
+use lib.ListN.{length, get_or, take, drop, replicate, length-drop, length-replicate, drop_of_length-le}
+use lib.Seq.{sets, sets-eq, get_or-take, drop-drop, length-take-le}
+use Rattle.std.specs.Int.{w32, to_be_bytes}
 use Rattle.model.specs.Lists.{filled}
 use Rattle.model.specs.Paths.{longest_name, longest_target}
 use Rattle.model.specs.Tables.{node_rows}
@@ -61,14 +63,27 @@ word_at (suc j) (a ∷ b ∷ c ∷ d ∷ s) h =
     ∙ sym (ap (word_from (a ∷ b ∷ c ∷ d ∷ s)) n ∙ word_behind a (b ∷ c ∷ d ∷ s) (suc (suc (suc (j * 4))))
     ∙ word_behind b (c ∷ d ∷ s) (suc (suc (j * 4))) ∙ word_behind c (d ∷ s) (suc (j * 4)) ∙ word_behind d s (j * 4))
 
-pub four_joined : (s : List ℕ) (k : ℕ) {r a b c d : ℕ} → r ≡ ((a * 256 + b) * 256 + c) * 256 + d
-    → a ≡ get_or s k 0 → b ≡ get_or s (k + 1) 0 → c ≡ get_or s (k + 2) 0 → d ≡ get_or s (k + 3) 0 → r ≡ word_from s k
-unfolding word_from
-four_joined s k e a b c d = e ∙ rw (a, b, c, d)
+-- byte k of a part of a list, as a slice's range is written
+abbrev pub Cut : List ℕ → ℕ → ℕ → ℕ → ℕ → Type 0
+Cut s from count k x = x ≡ get_or (take (from + count - from) (drop from s)) k 0
 
-pub first_word : (n : List ℕ) {l a b c : ℕ} → l ≡ length n → a ≡ get_or n 0 0 → b ≡ get_or n 1 0 → c ≡ get_or n 2 0
-    → ((l * 256 + a) * 256 + b) * 256 + c ≡ ((length n * 256 + get_or n 0 0) * 256 + get_or n 1 0) * 256 + get_or n 2 0
-first_word n e a b c = rw (e, a, b, c)
+-- four such bytes joined
+module _ (s : List ℕ) (from count : ℕ) where
+  cut : take (from + count - from) (drop from s) ≡ take count (drop from s)
+  cut = let n : from + count - from ≡ count = omega arith in rw n
+
+  pub four_joined : (k : ℕ) {r a b c d : ℕ} → r ≡ a * 16777216 + b * 65536 + c * 256 + d
+      → Cut s from count k a → Cut s from count (k + 1) b → Cut s from count (k + 2) c → Cut s from count (k + 3) d
+      → r ≡ word_from (take count (drop from s)) k
+  unfolding word_from
+  four_joined k e f g h i = rw (e, f, g, h, i, cut) (omega arith)
+
+  pub first_word : {r a b c : ℕ} → from + count ≤ length s → r ≡ count * 16777216 + a * 65536 + b * 256 + c
+      → Cut s from count 0 a → Cut s from count 1 b → Cut s from count 2 c
+      → let n = take count (drop from s) in r ≡ ((length n * 256 + get_or n 0 0) * 256 + get_or n 1 0) * 256 + get_or n 2 0
+  first_word l e f g h =
+      let m : length (take count (drop from s)) ≡ count = length-take-le count (drop from s) (omega (arith, length-drop from s)) in
+      rw (e, f, g, h, cut, m) (omega arith)
 
 pub block_made : (n : List ℕ) {f s t u : ℕ}
     → f ≡ ((length n * 256 + get_or n 0 0) * 256 + get_or n 1 0) * 256 + get_or n 2 0
@@ -100,14 +115,25 @@ target_word t k h =
 pub bytes_start : (ws : List ℕ) → length ws ≡ target_words → sets (replicate longest_target 0) (0 * 4) (bytes (drop 0 ws)) ≡ bytes ws
 bytes_start ws h = sets_whole (replicate longest_target 0) (bytes ws) (omega (arith, bytes_length ws, length-replicate {A = ℕ} longest_target 0))
 
-pub bytes_step : (ws out v : List ℕ) (k : ℕ) {x a b c d : ℕ} → k < length ws → x ≡ get_or ws k 0
-    → a ≡ bits 24 8 x → b ≡ bits 16 8 x → c ≡ bits 8 8 x → d ≡ bits 0 8 x
-    → sets out (k * 4) (bytes (drop k ws)) ≡ v
-    → sets (set (set (set (set out (k * 4) a) (k * 4 + 1) b) (k * 4 + 2) c) (k * 4 + 3) d) ((k + 1) * 4) (bytes (drop (k + 1) ws)) ≡ v
+-- a part of a list put back in is as many stores
+pub put_is_sets : (a k : ℕ) (xs ys : List ℕ) → length ys ≡ k → a + k ≤ length xs → put_mid a k xs ys ≡ sets xs a ys
+put_is_sets a k xs ys e h =
+    sym (sets-eq ys xs a (omega arith) ∙ append_assoc (take a xs) ys (drop (a + length ys) xs)
+    ∙ ap (λ m. take a xs ++ (ys ++ m)) (ap (λ n. drop (a + n) xs) e ∙ sym (drop-drop k a xs)))
+
+-- the bytes of one word
+four_bytes : (x : ℕ) → to_be_bytes w32 x ≡ bytes (x ∷ [])
 unfolding bytes bits
-bytes_step ws out v k {x} {a} {b} {c} {d} h e ea eb ec ed inv =
-    let n : (k + 1) * 4 ≡ suc (suc (suc (suc (k * 4)))) = omega arith in
-    rw (ea, eb, ec, ed, e, n, add-one (k * 4), add-two (k * 4), add-three (k * 4)) (sym (ap (λ l. sets out (k * 4) (bytes l)) (rest_at 0 ws k h)) ∙ inv)
+four_bytes x = let e : x / 1 ≡ x = div-one x in rw e
+
+pub bytes_step : (ws out v : List ℕ) (k : ℕ) {x : ℕ} {bs : List ℕ} → k < length ws → x ≡ get_or ws k 0 → k * 4 + 4 ≤ length out → bs ≡ to_be_bytes w32 x
+    → sets out (k * 4) (bytes (drop k ws)) ≡ v → sets (put_mid (k * 4) (k * 4 + 4 - k * 4) out bs) ((k + 1) * 4) (bytes (drop (k + 1) ws)) ≡ v
+unfolding bytes bits
+bytes_step ws out v k {x} h e l b inv =
+    let n : k * 4 + 4 - k * 4 ≡ 4 = omega arith in
+    let m : (k + 1) * 4 ≡ suc (suc (suc (suc (k * 4)))) = omega arith in
+    rw (b ∙ four_bytes x, e, n, m, put_is_sets (k * 4) 4 out (bytes (get_or ws k 0 ∷ [])) refl l)
+    (sym (ap (λ l. sets out (k * 4) (bytes l)) (rest_at 0 ws k h)) ∙ inv)
 
 pub bytes_end : (ws out v : List ℕ) (k : ℕ) → length ws ≤ k → sets out (k * 4) (bytes (drop k ws)) ≡ v → out ≡ v
 unfolding bytes

@@ -1,5 +1,10 @@
 -- Each public function's contract leaves one result. Assumes nothing.
-use mathlib.Core.Path.{sym, ◌∙◌}
+use mathlib.Core.Path.{◌≡◌, refl, sym, ap, ◌∙◌}
+use mathlib.Core.Logic.{◌⊎◌}
+use Prim.Native.Nat.{ℕ, ◌+◌, ◌<◌}
+use native.Mathlib.Omega.{arith}
+use Rattle.std.specs.Prelude.{Option, None, Some, MatchOption}
+use Rattle.model.specs.Tables.{node_rows}
 use Rattle.laws.proofs.Results.{OneResult}
 use Rattle.rows.proofs.top_bits.Kinds as top_bits_kinds
 use Rattle.rows.proofs.top_bits.Reads as top_bits_reads
@@ -29,6 +34,8 @@ use Rattle.rows.proofs.bytes_at.Kinds as bytes_at_kinds
 use Rattle.rows.proofs.bytes_at.Reads as bytes_at_reads
 use Rattle.rows.proofs.target_in.Kinds as target_in_kinds
 use Rattle.rows.proofs.target_in.Reads as target_in_reads
+use Rattle.rows.proofs.row_of_node.Kinds as row_of_node_kinds
+use Rattle.rows.proofs.row_of_node.Reads as row_of_node_reads
 use Rattle.rows.proofs.node_kind.Kinds as node_kind_kinds
 use Rattle.rows.proofs.node_kind.Reads as node_kind_reads
 use Rattle.rows.proofs.node_count.Kinds as node_count_kinds
@@ -87,6 +94,19 @@ bytes_at_determined κs a x y s t p q = p ∙ sym q
 
 pub target_in_determined : OneResult 1 target_in_kinds.ps target_in_kinds.r target_in_reads.Post
 target_in_determined κs a x y s t p q = p ∙ sym q
+
+-- there is one row, or none
+abbrev RowIs : ℕ → Option ℕ → Type 0
+RowIs n r = MatchOption r ((n ≡ 0) ⊎ (node_rows < n)) (λ row. (n ≡ row + 1) × (row < node_rows))
+
+one_row : (n : ℕ) (r s : Option ℕ) → RowIs n r → RowIs n s → r ≡ s
+one_row n None None p q = refl
+one_row n None (Some y) p q = absurd (let z : ⊥ = omega arith in z)
+one_row n (Some x) None p q = absurd (let z : ⊥ = omega arith in z)
+one_row n (Some x) (Some y) p q = let e : x ≡ y = omega arith in ap Some e
+
+pub row_of_node_determined : OneResult 0 row_of_node_kinds.ps row_of_node_kinds.r row_of_node_reads.Post
+row_of_node_determined κs a x y s t p q = one_row _ x y p q
 
 pub node_kind_determined : OneResult 1 node_kind_kinds.ps node_kind_kinds.r node_kind_reads.Post
 node_kind_determined κs a x y s t p q = p ∙ sym q

@@ -6,6 +6,7 @@ use mathlib.Core.List.{List, [], ◌∷◌, ◌++◌}
 use Prim.Native.Nat.{ℕ, zero, suc, ◌+◌, ◌*◌, ◌-◌, ◌/◌, ◌%◌, ◌≤◌, ◌<◌}
 use native.Mathlib.Omega.{arith}
 use native.Mathlib.Nat.{add-zero}
+use native.Mathlib.Numerals.{add-one}
 use borrow.Author.Tests.{eqb-true}
 use lib.ListN.{length, get_or, take, drop, get_or-append, get_or-eq_default}
 use lib.Seq.{get_or-take, get_or-drop, get_or-append_seam}
@@ -170,6 +171,10 @@ pub node_in_row : (xs : List Node) (n : ℕ) → 1 ≤ n → node_at xs n ≡ ge
 unfolding node_at
 node_in_row xs zero h = let z : ⊥ = omega arith in absurd z
 node_in_row xs (suc n) h = let e : suc n - 1 ≡ n = omega arith in ap (λ m. get_or xs m no_node) (sym e)
+
+pub node_of_row : (xs : List Node) {n : ℕ} (row : ℕ) → n ≡ row + 1 → node_at xs n ≡ get_or xs row no_node
+unfolding node_at
+node_of_row xs row e = ap (node_at xs) (e ∙ add-one row)
 
 -- there is no other
 pub no_such_node : (w : List ℕ) (n : ℕ) → (n ≡ 0) ⊎ (node_rows < n) → node_at (unpack w).nodes n ≡ no_node

@@ -1,6 +1,6 @@
 #![tactic(auto)]
 // The lent words read by row and field, and where each table, row and field stands in them; `edits`, `shape` and `fresh` take it from here.
-ghost use Rattle.std.specs.Prelude.{◌≡◌, ◌+◌, ◌*◌, ◌/◌, ◌%◌, ◌≤◌, ◌<◌, length, get_or, take, drop};
+ghost use Rattle.std.specs.Prelude.{◌≡◌, ◌⊎◌, ◌+◌, ◌*◌, ◌/◌, ◌%◌, ◌≤◌, ◌<◌, MatchOption, length, get_or, take, drop};
 ghost use Rattle.model.specs.Lists.{filled};
 ghost use Rattle.model.specs.Paths.{longest_name, longest_target};
 ghost use Rattle.model.specs.Tables.{entry_rows, node_rows, hold_rows, process_rows, node_at};
@@ -40,12 +40,8 @@ pub const PROCESS_ROWS: usize = 64;
 // Where the role stands in a hold.
 pub const ROLE_PLACE: usize = 5;
 
-// What one in a byte of a word is worth, the last byte aside.
+// What one in the first byte of a word is worth.
 pub const FIRST_BYTE_UNIT: u32 = 16777216;
-
-pub const SECOND_BYTE_UNIT: u32 = 65536;
-
-pub const THIRD_BYTE_UNIT: u32 = 256;
 
 // What one in a field is worth in its word: in the upper half of a pair, in a kind or role, in a target's length, in a count.
 pub const UPPER_UNIT: u32 = 65536;
@@ -56,9 +52,7 @@ pub const LENGTH_UNIT: u32 = 8388608;
 
 pub const COUNT_UNIT: u32 = 8192;
 
-// How many values a byte, a target's length and a count can have.
-pub const BYTE_VALUES: u32 = 256;
-
+// How many values a target's length and a count can have.
 pub const LENGTH_VALUES: u32 = 128;
 
 pub const COUNT_VALUES: u32 = 1024;
@@ -79,7 +73,7 @@ pub const END: u8 = 1;
 pub const ELEMENT: u8 = 2;
 
 // A name block: its four words.
-#[derive(Clone, Copy)]
+#[derive(Clone, Copy, PartialEq, Eq, Default)]
 pub struct Block {
     pub first: u32,
     pub second: u32,
@@ -111,6 +105,7 @@ pub struct Target {
     pub bytes: [u8; TARGET_BYTES],
 }
 
+// stays: each of these `as` is shown exact by the proof, and `try_from` would bring an Err that nothing can reach; no plainer.
 fn upper_half(word: u32) -> u16
     ensures { result ≡ word / 65536 }
 {
@@ -145,7 +140,7 @@ pub fn length_bits(word: u32) -> usize
 pub fn wide(number: u16) -> usize
     ensures { result ≡ number }
 {
-    number as usize
+    usize::from(number)
 }
 
 // NAMES
@@ -162,34 +157,25 @@ pub fn block_at(words: &[u32], at: usize) -> Block
     }
 }
 
-fn join_bytes(first: u8, second: u8, third: u8, fourth: u8) -> u32
-    ensures { result ≡ ((first * 256 + second) * 256 + third) * 256 + fourth }
+// Byte k of a name or a target, 0 behind its end.
+fn byte_or_zero(name: &[u8], k: usize) -> u8
+    ensures { result ≡ get_or name.now k 0 }
 {
-    first as u32 * FIRST_BYTE_UNIT
-        + second as u32 * SECOND_BYTE_UNIT
-        + third as u32 * THIRD_BYTE_UNIT
-        + fourth as u32
+    name.get(k).copied().unwrap_or(0)
 }
 
-// Byte k of the `count` bytes from `from` on, 0 behind them.
-fn byte_or_zero(path: &[u8], from: usize, count: usize, k: usize) -> u8
-    requires { from + count ≤ length path.now }
-    ensures { result ≡ get_or (take count (drop from path.now)) k 0 }
-{
-    if k < count { path[from + k] } else { 0 }
-}
-
-// Four of these bytes as a word, the first the most significant.
+// Four of the `count` bytes from `from` on as a word, the first the most significant, and zeros behind them.
 pub fn four_bytes(path: &[u8], from: usize, count: usize, k: usize) -> u32
     requires { (from + count ≤ length path.now) × (k < longest_target) }
     ensures { result ≡ word_from (take count (drop from path.now)) k }
 {
-    join_bytes(
-        byte_or_zero(path, from, count, k),
-        byte_or_zero(path, from, count, k + 1),
-        byte_or_zero(path, from, count, k + 2),
-        byte_or_zero(path, from, count, k + 3),
-    )
+    let name = &path[from..from + count];
+    u32::from_be_bytes([
+        byte_or_zero(name, k),
+        byte_or_zero(name, k + 1),
+        byte_or_zero(name, k + 2),
+        byte_or_zero(name, k + 3),
+    ])
 }
 
 // The block of the name that stands in the path: `count` bytes from `from` on.
@@ -197,13 +183,14 @@ pub fn block_from(path: &[u8], from: usize, count: usize) -> Block
     requires { (from + count ≤ length path.now) × (count ≤ longest_name) }
     ensures { result ≡ block_of (take count (drop from path.now)) }
 {
+    let name = &path[from..from + count];
     Block {
-        first: join_bytes(
+        first: u32::from_be_bytes([
             count as u8,
-            byte_or_zero(path, from, count, 0),
-            byte_or_zero(path, from, count, 1),
-            byte_or_zero(path, from, count, 2),
-        ),
+            byte_or_zero(name, 0),
+            byte_or_zero(name, 1),
+            byte_or_zero(name, 2),
+        ]),
         second: four_bytes(path, from, count, 3),
         third: four_bytes(path, from, count, 7),
         fourth: four_bytes(path, from, count, 11),
@@ -213,20 +200,12 @@ pub fn block_from(path: &[u8], from: usize, count: usize) -> Block
 pub fn same_blocks(a: Block, b: Block) -> bool
     ensures { result ≡ same_block a b }
 {
-    if a.first != b.first {
-        return false;
-    }
-    if a.second != b.second {
-        return false;
-    }
-    if a.third != b.third {
-        return false;
-    }
-    a.fourth == b.fourth
+    a == b
 }
 
 // ENTRIES
 
+// stays: each field of each table has one line and a clause on its own table; one generic would take both as ghosts, which is no plainer.
 pub fn entry_directory(words: &[u32], row: usize) -> u16
     requires { (Stands words.now) × (row < entry_rows) }
     ensures { result ≡ (entry_row words.now row).place.directory }
@@ -271,27 +250,14 @@ fn target_length_in(words: &[u32], row: usize) -> usize
     length_bits(words[NODES_START + row * NODE_WIDTH])
 }
 
-fn byte_of(word: u32, place: u32) -> u8
-    requires { 0 < place }
-    ensures { result ≡ word / place % 256 }
-{
-    (word / place % BYTE_VALUES) as u8
-}
-
 // The bytes of a target's words from `at` on.
 pub fn bytes_at(words: &[u32], at: usize) -> [u8; TARGET_BYTES]
     requires { at + target_words ≤ length words.now }
     ensures { result ≡ bytes (take target_words (drop at words.now)) }
 {
     let mut out = [0u8; TARGET_BYTES];
-    let mut k = 0;
-    while k < TARGET_WORDS {
-        let word = words[at + k];
-        out[k * 4] = byte_of(word, FIRST_BYTE_UNIT);
-        out[k * 4 + 1] = byte_of(word, SECOND_BYTE_UNIT);
-        out[k * 4 + 2] = byte_of(word, THIRD_BYTE_UNIT);
-        out[k * 4 + 3] = byte_of(word, 1);
-        k += 1;
+    for k in 0..TARGET_WORDS {
+        out[k * 4..k * 4 + 4].copy_from_slice(&words[at + k].to_be_bytes());
     }
     out
 }
@@ -308,32 +274,32 @@ pub fn target_in(words: &[u32], row: usize) -> Target
 
 // NODES, by number; no node has another number
 
+// The row of a node.
+pub fn row_of_node(node: u16) -> Option<usize>
+    ensures { MatchOption result ((node ≡ 0) ⊎ (node_rows < node)) (λ row. (node ≡ row + 1) × (row < node_rows)) }
+{
+    let row = usize::from(node).checked_sub(1)?;
+    if row < NODE_ROWS { Some(row) } else { None }
+}
+
 pub fn node_kind(words: &[u32], node: u16) -> u8
     requires { Stands words.now }
     ensures { result ≡ (node_at (unpack words.now).nodes node).kind }
 {
-    let number = node as usize;
-    if number == 0 {
-        return 0;
+    match row_of_node(node) {
+        Some(row) => kind_in(words, row),
+        None => 0,
     }
-    if number > NODE_ROWS {
-        return 0;
-    }
-    kind_in(words, number - 1)
 }
 
 pub fn node_count(words: &[u32], node: u16) -> u16
     requires { Stands words.now }
     ensures { result ≡ (node_at (unpack words.now).nodes node).count }
 {
-    let number = node as usize;
-    if number == 0 {
-        return 0;
+    match row_of_node(node) {
+        Some(row) => count_in(words, row),
+        None => 0,
     }
-    if number > NODE_ROWS {
-        return 0;
-    }
-    count_in(words, number - 1)
 }
 
 // HOLDS
