@@ -10,6 +10,11 @@ use Rattle.model.specs.Tables.{Place, free_entry, free_node, entry_rows, node_ro
 use Rattle.model.specs.Walk.{Goal}
 use Rattle.model.specs.Words.{unpack}
 use Rattle.model.specs.Calls.{at_root, no_free_entry, no_free_node}
+use Rattle.goals.specs.declared.Place as goal_place
+use Rattle.goals.specs.declared.Stop.{Stop}
+use Rattle.goals.specs.declared.Stop.TheVariants.{Refused, Root, Entry}
+use Rattle.goals.specs.declared.Walk.{Walk}
+use Rattle.goals.specs.Goals.{end_at, goal_of}
 use Rattle.rows.proofs.Parts.{entries_full, nodes_full}
 use Rattle.laws.proofs.Loops.{none_free}
 
@@ -19,6 +24,16 @@ module _ (y : Bool) {x a : Bool} (e : a ≡ x) where
 
   pub second_decides : a ≡ false → {b : Bool} → b ≡ y → b ≡ (x || y)
   second_decides t q = let k : x ≡ false = sym e ∙ t in rw k q
+
+-- a walk that stopped at no entry has no end
+pub no_end : (w : Walk) → ((q : goal_place.Place) (n : ℕ) → w.stop ≡ Entry q n → ⊥) → (goal_of w).end ≡ none
+unfolding goal_of end_at
+no_end w nowhere = go w.stop nowhere
+  where
+    go : (s : Stop) → ((q : goal_place.Place) (n : ℕ) → s ≡ Entry q n → ⊥) → end_at s ≡ none
+    go (Refused n) f = refl
+    go Root f = refl
+    go (Entry q n) f = absurd (f q n refl)
 
 pub root_is : (g : Goal) → g.end ≡ none → true ≡ at_root g
 unfolding at_root

@@ -28,10 +28,8 @@ fn drop_at(words: &mut [u32], directory: u16, name: Block)
     requires { (Stands words.old) × (Named name) }
     ensures { Becomes words.new (with_entries (unpack words.old) (clear (at (place_of directory name)) no_entry (unpack words.old).entries)) }
 {
-    let mut i = 0;
-    while i < ENTRY_ROWS {
-        drop_if_at(words, i, directory, name);
-        i += 1;
+    for row in 0..ENTRY_ROWS {
+        drop_if_at(words, row, directory, name);
     }
 }
 
@@ -39,14 +37,8 @@ pub fn drop_entry(words: &mut [u32], walk: Walk)
     requires { (Stands words.old) × (WalkNamed walk) }
     ensures { Becomes words.new (with_entries (unpack words.old) (drop_entry (goal_of walk).end (unpack words.old).entries)) }
 {
-    let stop = walk.stop;
-    match stop {
-        Stop::Refused(_) => {}
-        Stop::Root => {}
-        Stop::Entry { place, node: _ } => {
-            let name = place.name;
-            drop_at(words, place.directory, name);
-        }
+    if let Stop::Entry { place, .. } = walk.stop {
+        drop_at(words, place.directory, place.name);
     }
 }
 
@@ -73,10 +65,7 @@ pub fn add_entry(words: &mut [u32], walk: Walk, node: u16)
     requires { (Stands words.old) × ((WalkNamed walk) × (WalkUsed walk)) }
     ensures { Becomes words.new (with_entries (unpack words.old) (add_entry (goal_of walk).end node (unpack words.old).entries)) }
 {
-    let stop = walk.stop;
-    match stop {
-        Stop::Refused(_) => {}
-        Stop::Root => {}
-        Stop::Entry { place, node: _ } => put_at(words, place, node),
+    if let Stop::Entry { place, .. } = walk.stop {
+        put_at(words, place, node);
     }
 }

@@ -12,6 +12,7 @@ use holds::{drop_inside, drop_overruled, drop_preempted};
 use plans::{Plan, add_planned};
 use search::Caller;
 
+// stays: no plainer: take_preempting and take_overruling differ in the call that drops; one body for both would take that call as a closure and be longer.
 // Check, look and use: root drops the end holds of others.
 pub fn take_preempting(words: &mut [u32], caller: Caller, walk: Walk, plan: Plan)
     requires { (Behind words.old caller walk) × (PlanFor (unpack words.old).holds (wanted caller.process (goal_of walk)) plan) }

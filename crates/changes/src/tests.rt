@@ -28,45 +28,29 @@ pub fn leads_to_directory(words: &[u32], walk: Walk) -> bool
 fn stops_at_root(walk: Walk) -> bool
     ensures { result ≡ at_root (goal_of walk) }
 {
-    let stop = walk.stop;
-    match stop {
-        Stop::Refused(_) => true,
-        Stop::Root => true,
-        Stop::Entry { place: _, node: _ } => false,
-    }
+    !matches!(walk.stop, Stop::Entry { .. })
 }
 
 pub fn is_no_directory(words: &[u32], walk: Walk) -> bool
     requires { Stands words.now }
     ensures { result ≡ at_root (goal_of walk) || not (is_directory (unpack words.now).nodes (goal_of walk).node) }
 {
-    if stops_at_root(walk) {
-        return true;
-    }
-    !leads_to_directory(words, walk)
+    stops_at_root(walk) || !leads_to_directory(words, walk)
 }
 
 pub fn is_blocked(words: &[u32], caller: Caller, walk: Walk) -> bool
     requires { Behind words.now caller walk }
     ensures { result ≡ blocked (unpack words.now) caller.process (goal_of walk) }
 {
-    if is_root(caller) {
-        return false;
-    }
-    entry_held(words, caller, walk)
+    !is_root(caller) && entry_held(words, caller, walk)
 }
 
 pub fn is_directory_blocked(words: &[u32], caller: Caller, walk: Walk) -> bool
     requires { Behind words.now caller walk }
     ensures { result ≡ directory_blocked (unpack words.now) caller.process (goal_of walk) }
 {
-    if is_root(caller) {
-        return false;
-    }
-    if entry_held(words, caller, walk) {
-        return true;
-    }
-    inside_held(words, caller, node_of(walk))
+    !is_root(caller)
+        && (entry_held(words, caller, walk) || inside_held(words, caller, node_of(walk)))
 }
 
 pub fn lacks_entry_row(words: &[u32]) -> bool
@@ -87,8 +71,5 @@ pub fn lacks_rows(words: &[u32]) -> bool
     requires { Stands words.now }
     ensures { result ≡ no_free_entry (unpack words.now) || no_free_node (unpack words.now) }
 {
-    if lacks_entry_row(words) {
-        return true;
-    }
-    lacks_node_row(words)
+    lacks_entry_row(words) || lacks_node_row(words)
 }

@@ -1,6 +1,7 @@
 -- `changes::entry::add_entry` meets its contract: by where the walk stopped. Assumes nothing.
 use Rattle.changes.proofs.Entering.{entry_added, no_entry_added}
-use Rattle.holds.proofs.Ways.{end_named, entry_end, refused_end, root_end}
+use Rattle.changes.proofs.Testing.{no_end}
+use Rattle.holds.proofs.Ways.{end_named, entry_end}
 use Rattle.plans.proofs.Planning.{end_used}
 use Rattle.changes.proofs.entry.add_entry.Goals as goal
 
@@ -13,13 +14,10 @@ put_at-requires c = (
   ),
 )
 
-pub returns-in-Refused : goal.returns-in-Refused
-returns-in-Refused c = no_entry_added c.args.words.now c.args.node c.requires.0 (refused_end c.args.walk c.in-Refused.is)
-
-pub returns-in-Root : goal.returns-in-Root
-returns-in-Root c = no_entry_added c.args.words.now c.args.node c.requires.0 (root_end c.args.walk c.in-Root.is)
-
 pub returns-in-Entry : goal.returns-in-Entry
 returns-in-Entry c =
     entry_added c.args.words.now c.args.node
     (entry_end c.args.walk c.in-Entry.is) c.put_at.ensures
+
+pub returns-in_default : goal.returns-in_default
+returns-in_default c = no_entry_added c.args.words.now c.args.node c.requires.0 (no_end c.args.walk c.in_default.not-Entry)

@@ -4,9 +4,6 @@ use Rattle.changes.proofs.Entering.{entry_row_dropped, entry_row_left}
 use Rattle.rows.specs.Blocks.{place_of}
 use Rattle.changes.proofs.entry.drop_if_at.Goals as goal
 
-pub entry_is_at-requires : goal.entry_is_at-requires
-entry_is_at-requires c = (c.requires.0, (c.requires.1.0, c.requires.1.1))
-
 pub returns-then-entry_is_at : goal.returns-then-entry_is_at
 returns-then-entry_is_at c =
     entry_row_dropped c.args.words.now (at (place_of c.args.directory c.args.name)) c.args.row

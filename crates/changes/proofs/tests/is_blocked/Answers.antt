@@ -1,4 +1,6 @@
 -- `changes::tests::is_blocked` meets its contract: root is never blocked. Assumes nothing.
+use mathlib.Core.Bool.{not}
+use mathlib.Core.Path.{◌∙◌, ap}
 use Rattle.model.specs.Calls.{blocked}
 use Rattle.model.specs.Holds.{entry_held}
 use Rattle.model.specs.Words.{unpack}
@@ -7,21 +9,17 @@ use Rattle.holds.proofs.Ways.{root_is}
 use Rattle.goals.specs.Goals.{goal_of}
 use Rattle.changes.proofs.tests.is_blocked.Goals as goal
 
-pub returns-then-is_root : goal.returns-then-is_root
+pub returns-then-not-is_root : goal.returns-then-not-is_root
 unfolding blocked
-returns-then-is_root c =
-    let t = unpack c.args.words.now in
-    root_passes (entry_held t c.args.caller.process (goal_of c.args.walk))
-    (root_is t c.args.caller c.requires.known c.is_root.ensures) c.if-is_root.true
-
-pub entry_held-requires : goal.entry_held-requires
-entry_held-requires c =
-    let behind = c.requires in
-    (behind.stands, (behind.known, behind.named))
-
-pub returns : goal.returns
-unfolding blocked
-returns c =
+returns-then-not-is_root c =
     let t = unpack c.args.words.now in
     others_ask (entry_held t c.args.caller.process (goal_of c.args.walk))
-    (root_is t c.args.caller c.requires.known c.is_root.ensures) c.if-is_root.false c.entry_held.ensures
+    (root_is t c.args.caller c.requires.known c.is_root.ensures) c.if-not-is_root.true c.entry_held.ensures
+
+pub returns-else-not-is_root : goal.returns-else-not-is_root
+unfolding blocked
+returns-else-not-is_root c =
+    let t = unpack c.args.words.now in
+    ap not c.if-not-is_root.false
+    ∙ root_passes (entry_held t c.args.caller.process (goal_of c.args.walk))
+    (root_is t c.args.caller c.requires.known c.is_root.ensures) c.if-not-is_root.false
