@@ -43,24 +43,24 @@ module _ (place : ℕ) (word : List ℕ) (number : ℕ) (l : List ℕ) (h : leng
         unfolding line_around
         puts_line s = puts_both p (puts_both q (puts_both r s))
 
--- THE LINE OF AN ANSWER, of the word with a space on either side
+-- THE LINE OF AN ANSWER, of the word with a space on either side and the number as one of 64 bits
 
-module _ (place : ℕ) {answer : Answer} {n : ℕ} (h : n < 2 ^ 16) where
-  pub held_line : answer ≡ Held n → line_around place (32 ∷ 104 ∷ 101 ∷ 108 ∷ 100 ∷ 32 ∷ []) n ≡ line place answer
+module _ (place : ℕ) {answer : Answer} {n number : ℕ} (wide : number ≡ n) (h : n < 2 ^ 16) where
+  pub held_line : answer ≡ Held n → line_around place (32 ∷ 104 ∷ 101 ∷ 108 ∷ 100 ∷ 32 ∷ []) number ≡ line place answer
   unfolding line_around line text word_of number_of
-  held_line e = rw (e, five_digits h)
+  held_line e = rw (e, wide, five_digits h)
 
-  pub seen_line : answer ≡ Seen n → line_around place (32 ∷ 115 ∷ 101 ∷ 101 ∷ 110 ∷ 32 ∷ []) n ≡ line place answer
+  pub seen_line : answer ≡ Seen n → line_around place (32 ∷ 115 ∷ 101 ∷ 101 ∷ 110 ∷ 32 ∷ []) number ≡ line place answer
   unfolding line_around line text word_of number_of
-  seen_line e = rw (e, five_digits h)
+  seen_line e = rw (e, wide, five_digits h)
 
-  pub done_line : answer ≡ Done n → line_around place (32 ∷ 100 ∷ 111 ∷ 110 ∷ 101 ∷ 32 ∷ []) n ≡ line place answer
+  pub done_line : answer ≡ Done n → line_around place (32 ∷ 100 ∷ 111 ∷ 110 ∷ 101 ∷ 32 ∷ []) number ≡ line place answer
   unfolding line_around line text word_of number_of
-  done_line e = rw (e, five_digits h)
+  done_line e = rw (e, wide, five_digits h)
 
-  pub refused_line : answer ≡ Refused n → line_around place (32 ∷ 114 ∷ 101 ∷ 102 ∷ 117 ∷ 115 ∷ 101 ∷ 100 ∷ 32 ∷ []) n ≡ line place answer
+  pub refused_line : answer ≡ Refused n → line_around place (32 ∷ 114 ∷ 101 ∷ 102 ∷ 117 ∷ 115 ∷ 101 ∷ 100 ∷ 32 ∷ []) number ≡ line place answer
   unfolding line_around line text word_of number_of
-  refused_line e = rw (e, five_digits h)
+  refused_line e = rw (e, wide, five_digits h)
 
 -- so what is shown of one is shown of the other
 module _ {new text : List ℕ} (e : new ≡ text) where

@@ -1,11 +1,12 @@
 -- Bytes put into a list, one run behind the other, are put in one run. Assumes nothing.
-use mathlib.Core.Path.{◌≡◌, refl, ap, ◌∙◌}
+use mathlib.Core.Path.{◌≡◌, refl, sym, ap, ◌∙◌}
 use mathlib.Core.List.{List, [], ◌∷◌, ◌++◌}
-use Prim.Native.Nat.{ℕ, suc, ◌+◌, ◌≤◌, ◌<◌}
+use Prim.Native.Nat.{ℕ, suc, ◌+◌, ◌-◌, ◌≤◌}
 use native.Mathlib.Omega.{arith}
-use lib.ListN.{length, take, drop, set, get_or, length-append}
-use lib.Seq.{sets, length-sets, sets-eq, take-suc, take_all}
-use native.Mathlib.Numerals.{add-one}
+use borrow.Rule.Slice.PartMut.{put_mid}
+use lib.ListN.{length, drop, length-append}
+use lib.Seq.{sets, length-sets, sets-eq, take_all}
+use Rattle.std.proofs.lemmas.Slice.{put_mid-paste}
 use Rattle.lines.specs.Puts.{Puts}
 
 sets_behind : (l : List ℕ) (i : ℕ) (a b : List ℕ) → sets (sets l i a) (i + length a) b ≡ sets l i (a ++ b)
@@ -40,19 +41,12 @@ module _ (at : ℕ) (a b : List ℕ) where
   pub rest_fits : {l m : List ℕ} {j : ℕ} → at + length (a ++ b) ≤ length l → Puts l at a j m → j + length b ≤ length m
   rest_fits h p = let e = length-append a b in omega (arith, p.end_is, puts_length p)
 
--- COPYING, BYTE BY BYTE
+-- COPYING INTO A PART
 
-pub puts_none : (l text : List ℕ) (at : ℕ) → Puts l at (take 0 text) (at + 0) l
-puts_none l text at = record { end_is = refl; bytes_are = refl }
-
-module _ {l m : List ℕ} {at : ℕ} (text : List ℕ) (i : ℕ) where
-  pub puts_next : i < length text → Puts l at (take i text) (at + i) m
-      → Puts l at (take (i + 1) text) (at + (i + 1)) (set m (at + i) (get_or text i 0))
-  puts_next h p =
-      let one : Puts m (at + i) (get_or text i 0 ∷ []) (at + (i + 1)) (set m (at + i) (get_or text i 0)) =
-      record { end_is = omega arith; bytes_are = refl }
-      in
-      rw (add-one i, take-suc text i 0 h) (puts_both p (rw add-one at one))
-
-  pub puts_whole : {j : ℕ} → length text ≤ i → Puts l at (take i text) j m → Puts l at text j m
-  puts_whole h p = rw (take_all i text h) at p
+pub puts_copied : (l : List ℕ) (at : ℕ) (text : List ℕ) {copied : List ℕ} → at + length text ≤ length l → copied ≡ text
+    → Puts l at text (at + length text) (put_mid at (at + length text - at) l copied)
+puts_copied l at text h e =
+    record {
+      end_is = refl;
+      bytes_are = put_mid-paste _ _ _ _ text (length text) e (omega arith) refl ∙ rw (take_all (length text) text (omega arith)) (sym (sets-eq text l at h));
+    }

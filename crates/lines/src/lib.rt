@@ -11,7 +11,8 @@ fn digit(number: u64) -> u8
     requires { number < 10 }
     ensures { result ≡ 48 + number }
 {
-    48 + number as u8
+    // stays: the number is below ten; `try_from` would ask for a refusal that can't come, so the cast is no less plain.
+    b'0' + number as u8
 }
 
 // Writes one byte, and answers the place behind it.
@@ -40,12 +41,9 @@ fn put_text(out: &mut [u8], at: usize, text: &[u8]) -> usize
     requires { at + length text.now ≤ length out.old }
     ensures { Puts out.old at text.now result out.new }
 {
-    let mut i = 0;
-    while i < text.len() {
-        out[at + i] = text[i];
-        i += 1;
-    }
-    at + i
+    let end = at + text.len();
+    out[at..end].copy_from_slice(text);
+    end
 }
 
 // Writes a line at the front: the place, the word with a space on either side, and the number.
@@ -65,9 +63,9 @@ pub fn put_line(out: &mut [u8], place: u64, answer: Answer) -> usize
     ensures { Puts out.old 0 (line place answer) result out.new }
 {
     match answer {
-        Answer::Held(node) => put_line_around(out, place, b" held ", node as u64),
-        Answer::Seen(node) => put_line_around(out, place, b" seen ", node as u64),
-        Answer::Done(number) => put_line_around(out, place, b" done ", number as u64),
-        Answer::Refused(number) => put_line_around(out, place, b" refused ", number as u64),
+        Answer::Held(node) => put_line_around(out, place, b" held ", u64::from(node)),
+        Answer::Seen(node) => put_line_around(out, place, b" seen ", u64::from(node)),
+        Answer::Done(number) => put_line_around(out, place, b" done ", u64::from(number)),
+        Answer::Refused(number) => put_line_around(out, place, b" refused ", u64::from(number)),
     }
 }
