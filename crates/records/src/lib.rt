@@ -1,7 +1,6 @@
 #![tactic(auto)]
 // The record of a call, read and packed. Document 01, 'The thirteen calls' and 'Numbers given back'.
-ghost use Rattle.std.specs.Prelude.{◌≡◌, ◌++◌, ◌+◌, ◌≤◌, ◌<◌, length, drop};
-ghost use Rattle.std.proofs.Math.Seq.{paste};
+ghost use Rattle.std.specs.Prelude.{◌≡◌, ◌++◌, ◌+◌, ◌<◌, length, drop};
 ghost use Rattle.model.specs.Records.{write};
 ghost use Rattle.fields.specs.Given.{given, Writes};
 ghost use Rattle.records.specs.Reading.{cut_short, fields_at, reading, taken_of};
@@ -127,9 +126,9 @@ pub fn pack(
     ensures { Packs (called call process argument path1.now path2.now) destination.old result destination.new }
 {
     let numbers = Numbers {
-        call: call,
-        process: process,
-        argument: argument,
+        call,
+        process,
+        argument,
         zeros: 0,
     };
     let number = fields::fault(numbers, path1, path2);
@@ -150,19 +149,9 @@ fn write_record(numbers: Numbers, path1: &[u8], path2: &[u8], destination: &mut 
     ensures { destination.new ≡ write (given numbers path1.now path2.now) ++ drop (7 + length path1.now + length path2.now) destination.old }
 {
     let middle = HEAD_LENGTH + path1.len();
+    let length = middle + path2.len();
     let head = heads::joined_head(numbers, path1.len(), path2.len());
     heads::write_head(destination, head);
-    copy_to(destination, HEAD_LENGTH, path1);
-    copy_to(destination, middle, path2);
-}
-
-fn copy_to(destination: &mut [u8], at: usize, source: &[u8])
-    requires { at + length source.now ≤ length destination.old }
-    ensures { destination.new ≡ paste destination.old at source.now (length source.now) }
-{
-    let mut i = 0;
-    while i < source.len() {
-        destination[at + i] = source[i];
-        i += 1;
-    }
+    destination[HEAD_LENGTH..middle].copy_from_slice(path1);
+    destination[middle..length].copy_from_slice(path2);
 }
