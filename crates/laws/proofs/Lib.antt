@@ -16,6 +16,7 @@ pub mod Members
 pub mod Pieces
 pub mod Places
 pub mod Results
+pub mod RowChains
 pub mod RowWords
 pub mod Rules
 pub mod Searches

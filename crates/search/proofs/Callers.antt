@@ -2,28 +2,31 @@
 use mathlib.Core.Path.{◌≡◌, refl, sym, ap, ◌∙◌}
 use mathlib.Core.Bool.{Bool, true, false}
 use mathlib.Core.List.{List}
-use Prim.Native.Nat.{ℕ, ◌≤◌, ◌<◌}
-use borrow.Author.Tests.{lt-ltb, le-ltb}
-use Rattle.model.specs.Lists.{first}
-use Rattle.model.specs.Tables.{Process, is_process, listed, user_of, process_rows}
+use Prim.Native.Nat.{ℕ}
+use Rattle.std.specs.Prelude.{Some, None}
+use Rattle.model.specs.Tables.{Process, is_process, listed, user_of}
 use Rattle.model.specs.Words.{unpack}
 use Rattle.rows.specs.Stands.{process_row}
 use Rattle.search.specs.declared.Caller.{Caller}
 use Rattle.search.specs.declared.Listing.{Listing}
 use Rattle.search.specs.declared.Listing.TheVariants.{Unlisted, Listed}
 use Rattle.search.specs.Callers.{Known, caller, listing, listing_of}
-use Rattle.search.proofs.Tests.{listed_by_row, user_by_row}
+use Rattle.search.specs.Rows.{first_row}
+use Rattle.search.proofs.Rows.{found_none, found_row}
+use Rattle.search.proofs.Tests.{user_by_row}
 
-module _ (w : List ℕ) (p : ℕ) {k : ℕ} (e : k ≡ first (is_process p) 0 (unpack w).processes) where
-  pub unlisted_row : process_rows ≤ k → Unlisted ≡ listing_of (unpack w).processes p
-  unfolding listing_of
-  unlisted_row h = ap (λ b. listing b (caller (unpack w).processes p)) (sym (le-ltb k process_rows h) ∙ listed_by_row w p e)
+module _ (w : List ℕ) (p : ℕ) where
+  pub unlisted_row : None ≡ first_row (is_process p) (unpack w).processes → Unlisted ≡ listing_of (unpack w).processes p
+  unfolding listing_of listed
+  unlisted_row e = ap (λ b. listing b (caller (unpack w).processes p)) (sym (found_none (is_process p) (unpack w).processes e))
 
-  pub caller_row : k < process_rows → {u : ℕ} → u ≡ (process_row w k).user → Listed (record { process = p; user = u }) ≡ listing_of (unpack w).processes p
-  unfolding listing_of
-  caller_row h g =
-      ap (λ u. Listed (record { process = p; user = u })) (user_by_row w p e g)
-      ∙ ap (λ b. listing b (caller (unpack w).processes p)) (sym (lt-ltb k process_rows h) ∙ listed_by_row w p e)
+  pub caller_row : {k : ℕ} → Some k ≡ first_row (is_process p) (unpack w).processes → {u : ℕ} → u ≡ (process_row w k).user
+      → Listed (record { process = p; user = u }) ≡ listing_of (unpack w).processes p
+  unfolding listing_of listed
+  caller_row e g =
+      let found = found_row (is_process p) (unpack w).processes e in
+      ap (λ u. Listed (record { process = p; user = u })) (user_by_row w p found.is g)
+      ∙ ap (λ b. listing b (caller (unpack w).processes p)) (sym found.some)
 
 -- WHAT THE ANSWER TELLS
 

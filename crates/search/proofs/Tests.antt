@@ -1,17 +1,14 @@
 -- One row tested as the model tests it, and what a search's row gives. Assumes nothing.
-use mathlib.Core.Path.{◌≡◌, refl, sym, ap, ◌∙◌}
-use mathlib.Core.Bool.{Bool, true, false}
+use mathlib.Core.Path.{◌≡◌, sym, ap, ◌∙◌}
+use mathlib.Core.Bool.{Bool, false}
 use mathlib.Core.List.{List}
-use Prim.Native.Nat.{ℕ, ◌≤◌}
-use native.Mathlib.Omega.{arith}
-use borrow.Author.Tests.{eq-eqb, ne_eqb, lt-ltb, le-ltb}
-use lib.Dec.{ltb}
-use lib.ListN.{get_or-eq_default}
-use Rattle.model.specs.Lists.{same, any, first}
-use Rattle.model.specs.Tables.{process_rows, Place, Hold, Process, no_process, same_place, is_process, listed, user_of}
+use Prim.Native.Nat.{ℕ}
+use borrow.Author.Tests.{eq-eqb, ne_eqb}
+use Rattle.model.specs.Lists.{same, first}
+use Rattle.model.specs.Tables.{Place, Hold, Process, no_process, same_place, is_process, user_of}
 use Rattle.model.specs.Sound.{same_hold}
 use Rattle.model.specs.Words.{unpack}
-use Rattle.laws.proofs.Loops.{find_first, any_first, none_first}
+use Rattle.laws.proofs.Loops.{find_first}
 use Rattle.laws.proofs.Words.{NameFits, name_back as name_comes_back}
 use Rattle.rows.specs.declared.Block.{Block}
 use Rattle.rows.specs.declared.HoldRow.{HoldRow}
@@ -19,7 +16,6 @@ use Rattle.rows.specs.Blocks.{name_of, Named, block_of, same_block, place_of}
 use Rattle.rows.specs.Rows.{hold_of}
 use Rattle.rows.specs.Stands.{process_row}
 use Rattle.rows.proofs.Blocks.{name_back, block_named, same_name_block, same_blocks_same_names}
-use Rattle.rows.proofs.Parts.{processes_full}
 
 -- A PLACE: the directory is compared first, then the block of the name
 
@@ -62,20 +58,8 @@ module _ (h : HoldRow) (x : Hold) where
 
 -- WHAT THE FOUND ROW GIVES
 
-pub listed_by_row : (w : List ℕ) (p : ℕ) {k : ℕ} → k ≡ first (is_process p) 0 (unpack w).processes → ltb k process_rows ≡ listed (unpack w).processes p
-unfolding listed
-listed_by_row w p {k} e = go (any (is_process p) (unpack w).processes) refl
-  where
-    go : (b : Bool) → any (is_process p) (unpack w).processes ≡ b → ltb k process_rows ≡ b
-    go true t = lt-ltb k process_rows (omega (arith, any_first (is_process p) (unpack w).processes t, processes_full w))
-    go false t = le-ltb k process_rows (omega (arith, none_first (is_process p) (unpack w).processes t, processes_full w))
-
 pub user_by_row : (w : List ℕ) (p : ℕ) {k u : ℕ} → k ≡ first (is_process p) 0 (unpack w).processes → u ≡ (process_row w k).user
     → u ≡ user_of (unpack w).processes p
 unfolding user_of
 user_by_row w p e h =
     h ∙ ap (λ n. (process_row w n).user) e ∙ ap (λ (x : Process). x.user) (sym (find_first (is_process p) no_process (unpack w).processes))
-
--- past the last row stands no process
-pub no_user : (w : List ℕ) (k : ℕ) → process_rows ≤ k → 0 ≡ (process_row w k).user
-no_user w k h = ap (λ (x : Process). x.user) (sym (get_or-eq_default (unpack w).processes no_process (omega (arith, processes_full w))))

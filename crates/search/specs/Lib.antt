@@ -1,1 +1,2 @@
 pub mod Callers
+pub mod Rows

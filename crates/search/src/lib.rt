@@ -12,6 +12,7 @@ ghost use Rattle.rows.specs.Blocks.{Named, place_of};
 ghost use Rattle.rows.specs.Rows.{hold_of};
 ghost use Rattle.rows.specs.Stands.{Stands, entry_row, hold_row};
 ghost use Rattle.search.specs.Callers.{listing_of};
+ghost use Rattle.search.specs.Rows.{first_row};
 
 use rows::{
     Block, ENTRY_ROWS, HOLD_ROWS, HoldRow, NODE_ROWS, PROCESS_ROWS, entry_directory, entry_name,
@@ -37,26 +38,18 @@ pub enum Listing {
 
 // PROCESSES
 
-// The row of a process, PROCESS_ROWS where it is not listed.
-fn find_process(words: &[u32], process: u16) -> usize
+fn find_process(words: &[u32], process: u16) -> Option<usize>
     requires { Stands words.now }
-    ensures { result ≡ first (is_process process) 0 (unpack words.now).processes }
+    ensures { result ≡ first_row (is_process process) (unpack words.now).processes }
 {
-    let mut row = 0;
-    while row < PROCESS_ROWS {
-        if process_number(words, row) == process {
-            return row;
-        }
-        row += 1;
-    }
-    row
+    (0..PROCESS_ROWS).find(|row| process_number(words, *row) == process)
 }
 
 pub fn is_listed(words: &[u32], process: u16) -> bool
     requires { Stands words.now }
     ensures { result ≡ listed (unpack words.now).processes process }
 {
-    find_process(words, process) < PROCESS_ROWS
+    find_process(words, process).is_some()
 }
 
 // The user of a process, 0 where it is not listed.
@@ -64,11 +57,10 @@ pub fn user_of_process(words: &[u32], process: u16) -> u16
     requires { Stands words.now }
     ensures { result ≡ user_of (unpack words.now).processes process }
 {
-    let row = find_process(words, process);
-    if row >= PROCESS_ROWS {
-        return 0;
+    match find_process(words, process) {
+        Some(row) => process_user(words, row),
+        None => 0,
     }
-    process_user(words, row)
 }
 
 // The process that calls, its row looked up once.
@@ -76,12 +68,13 @@ pub fn find_caller(words: &[u32], process: u16) -> Listing
     requires { Stands words.now }
     ensures { result ≡ listing_of (unpack words.now).processes process }
 {
-    let found = find_process(words, process);
-    if found >= PROCESS_ROWS {
-        return Listing::Unlisted;
+    match find_process(words, process) {
+        Some(row) => Listing::Listed(Caller {
+            process,
+            user: process_user(words, row),
+        }),
+        None => Listing::Unlisted,
     }
-    let user = process_user(words, found);
-    Listing::Listed(Caller { process, user })
 }
 
 // ENTRIES
@@ -101,14 +94,7 @@ pub fn has_any_entry(words: &[u32], directory: u16) -> bool
     requires { Stands words.now }
     ensures { result ≡ has_entries (unpack words.now).entries directory }
 {
-    let mut i = 0;
-    while i < ENTRY_ROWS {
-        if entry_directory(words, i) == directory {
-            return true;
-        }
-        i += 1;
-    }
-    false
+    (0..ENTRY_ROWS).any(|row| entry_directory(words, row) == directory)
 }
 
 // HOLDS
@@ -145,29 +131,16 @@ pub fn has_hold(words: &[u32], hold: HoldRow) -> bool
     requires { (Stands words.now) × (Named hold.name) }
     ensures { result ≡ any (same_hold (hold_of hold)) (unpack words.now).holds }
 {
-    let mut i = 0;
-    while i < HOLD_ROWS {
-        if hold_is(words, i, hold) {
-            return true;
-        }
-        i += 1;
-    }
-    false
+    (0..HOLD_ROWS).any(|row| hold_is(words, row, hold))
 }
 
 pub fn free_hold_rows(words: &[u32]) -> usize
     requires { Stands words.now }
     ensures { result ≡ count free_hold (unpack words.now).holds }
 {
-    let mut free: usize = 0;
-    let mut i = 0;
-    while i < HOLD_ROWS {
-        if hold_directory(words, i) == 0 {
-            free += 1;
-        }
-        i += 1;
-    }
-    free
+    (0..HOLD_ROWS)
+        .filter(|row| hold_directory(words, *row) == 0)
+        .count()
 }
 
 // THE LOWEST FREE ROW of each table; the number of its rows where none is free
@@ -176,54 +149,34 @@ pub fn free_entry_row(words: &[u32]) -> usize
     requires { Stands words.now }
     ensures { result ≡ first free_entry 0 (unpack words.now).entries }
 {
-    let mut row = 0;
-    while row < ENTRY_ROWS {
-        if entry_directory(words, row) == 0 {
-            return row;
-        }
-        row += 1;
-    }
-    row
+    (0..ENTRY_ROWS)
+        .find(|row| entry_directory(words, *row) == 0)
+        .unwrap_or(ENTRY_ROWS)
 }
 
 pub fn free_node_row(words: &[u32]) -> usize
     requires { Stands words.now }
     ensures { result ≡ first free_node 0 (unpack words.now).nodes }
 {
-    let mut row = 0;
-    while row < NODE_ROWS {
-        if kind_in(words, row) == 0 {
-            return row;
-        }
-        row += 1;
-    }
-    row
+    (0..NODE_ROWS)
+        .find(|row| kind_in(words, *row) == 0)
+        .unwrap_or(NODE_ROWS)
 }
 
 pub fn free_hold_row(words: &[u32]) -> usize
     requires { Stands words.now }
     ensures { result ≡ first free_hold 0 (unpack words.now).holds }
 {
-    let mut row = 0;
-    while row < HOLD_ROWS {
-        if hold_directory(words, row) == 0 {
-            return row;
-        }
-        row += 1;
-    }
-    row
+    (0..HOLD_ROWS)
+        .find(|row| hold_directory(words, *row) == 0)
+        .unwrap_or(HOLD_ROWS)
 }
 
 pub fn free_process_row(words: &[u32]) -> usize
     requires { Stands words.now }
     ensures { result ≡ first free_process 0 (unpack words.now).processes }
 {
-    let mut row = 0;
-    while row < PROCESS_ROWS {
-        if process_number(words, row) == 0 {
-            return row;
-        }
-        row += 1;
-    }
-    row
+    (0..PROCESS_ROWS)
+        .find(|row| process_number(words, *row) == 0)
+        .unwrap_or(PROCESS_ROWS)
 }

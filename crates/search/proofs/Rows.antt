@@ -1,0 +1,55 @@
+-- The row that a search gives: it is the model's, it is one of the list's, and a row passes just where there is one. Assumes nothing.
+use mathlib.Core.Path.{◌≡◌, refl, sym, ap, ◌∙◌}
+use mathlib.Core.Bool.{Bool, true, false}
+use mathlib.Core.List.{List}
+use Prim.Native.Nat.{ℕ, ◌<◌}
+use native.Mathlib.Omega.{arith}
+use borrow.Author.Tests.{lt-ltb, le-ltb}
+use lib.ListN.{length}
+use Rattle.std.specs.Prelude.{Option, Some, None, is_some, unwrap_or}
+use Rattle.model.specs.Lists.{any, first}
+use Rattle.laws.proofs.Loops.{any_first, none_first}
+use Rattle.search.specs.Rows.{first_row}
+
+pub record Found {A : Type 0} (f : A → Bool) (rows : List A) (k : ℕ) : Type 0 where
+  pub is : k ≡ first f 0 rows
+  pub inside : k < length rows
+  pub some : any f rows ≡ true
+
+module _ {A : Type 0} (f : A → Bool) (rows : List A) where
+  some_is : any f rows ≡ true → first_row f rows ≡ Some (first f 0 rows)
+  some_is t = rw (lt-ltb (first f 0 rows) (length rows) (any_first f rows t))
+
+  none_is : any f rows ≡ false → first_row f rows ≡ None
+  none_is t = rw (le-ltb (first f 0 rows) (length rows) (omega (arith, none_first f rows t)))
+
+  pub found_row : {k : ℕ} → Some k ≡ first_row f rows → Found f rows k
+  found_row {k} e = go (any f rows) refl
+    where
+      go : (b : Bool) → any f rows ≡ b → Found f rows k
+      go true t =
+          let same : Some k ≡ Some (first f 0 rows) = e ∙ some_is t in
+          let is : k ≡ first f 0 rows = cc in
+          record { is = is; inside = omega (arith, any_first f rows t); some = t }
+      go false t = let no : Some k ≡ None = e ∙ none_is t in cc
+
+  pub found_none : None ≡ first_row f rows → any f rows ≡ false
+  found_none e = go (any f rows) refl
+    where
+      go : (b : Bool) → any f rows ≡ b → b ≡ false
+      go false t = refl
+      go true t = let no : None ≡ Some (first f 0 rows) = e ∙ some_is t in cc
+
+  pub found_any : {r : Option ℕ} → r ≡ first_row f rows → is_some r ≡ any f rows
+  found_any {r} e = go (any f rows) refl
+    where
+      go : (b : Bool) → any f rows ≡ b → is_some r ≡ b
+      go true t = ap is_some (e ∙ some_is t)
+      go false t = ap is_some (e ∙ none_is t)
+
+  pub found_or : {r : Option ℕ} {n : ℕ} → length rows ≡ n → r ≡ first_row f rows → unwrap_or r n ≡ first f 0 rows
+  found_or {r} {n} l e = go (any f rows) refl
+    where
+      go : (b : Bool) → any f rows ≡ b → unwrap_or r n ≡ first f 0 rows
+      go true t = ap (λ o. unwrap_or o n) (e ∙ some_is t)
+      go false t = ap (λ o. unwrap_or o n) (e ∙ none_is t) ∙ sym (none_first f rows t ∙ l)
