@@ -1,4 +1,3 @@
-pub mod Clean
 pub mod Parts
 pub mod Names
 pub mod Positions

@@ -2,62 +2,40 @@
 use mathlib.Core.Path.{◌≡◌, refl, sym, ◌∙◌}
 use mathlib.Core.Bool.{Bool, true, false, not, ◌&&◌, ◌||◌, true≢false, false≢true}
 use mathlib.Core.List.{List, [], ◌∷◌}
+use mathlib.Core.Logic.{◌⊎◌, inl, inr}
 use Prim.Native.Nat.{ℕ, ◌≤◌, ◌<◌}
 use native.Mathlib.Omega.{arith}
 use lib.Dec.{eqb, leb}
-use lib.ListN.{length, get_or}
-use borrow.Author.Tests.{eq-eqb, ne_eqb, le-leb, lt-leb}
+use lib.ListN.{length}
+use lib.Pointwise.{pointwise}
+use borrow.Author.Tests.{le-leb, lt-leb}
+use Rattle.std.proofs.Common.{nat_eq}
+use Rattle.std.specs.List.{list_all}
 use Rattle.model.specs.Lists.{same, all}
-use Rattle.model.specs.Paths.{slash, dot, name_byte, valid_name}
+use Rattle.model.specs.Paths.{dot, name_byte, valid_name}
 use Rattle.paths.specs.Split.{dots}
 
-pub zero_byte : (b : ℕ) → b ≡ 0 → name_byte b ≡ false
-unfolding name_byte
-zero_byte b e = rw e
-
-pub slash_byte : (b : ℕ) → b ≡ slash → name_byte b ≡ false
-unfolding name_byte
-slash_byte b e = rw e
-
-pub other_byte : (b : ℕ) → (b ≡ 0 → ⊥) → (b ≡ slash → ⊥) → name_byte b ≡ true
-unfolding name_byte
-other_byte b z s = rw (ne_eqb b 0 z, ne_eqb b slash s)
+pub all_of : {A : Type 0} (f : A → Bool) (xs : List A) → list_all f xs ≡ all f xs
+unfolding all
+all_of f [] = refl
+all_of f (x ∷ xs) = rw (all_of f xs)
 
 -- DOTS
 
-pub dots_longer : (n : List ℕ) → 2 < length n → dots n ≡ false
-unfolding dots same
-dots_longer [] h = absurd (omega arith)
-dots_longer (a ∷ []) h = absurd (omega arith)
-dots_longer (a ∷ (b ∷ [])) h = absurd (omega arith)
-dots_longer (a ∷ (b ∷ (c ∷ n))) h = go (eqb a dot) (eqb b dot)
+same_as : (xs ys : List ℕ) → pointwise nat_eq xs ys ≡ same xs ys
+unfolding same
+same_as [] [] = refl
+same_as [] (y ∷ ys) = refl
+same_as (x ∷ xs) [] = refl
+same_as (x ∷ xs) (y ∷ ys) = go (eqb x y) (same_as xs ys)
   where
-    go : (s t : Bool) → (elim s [ true ↦ false | false ↦ false ] || elim s [ true ↦ elim t [ true ↦ false | false ↦ false ] | false ↦ false ]) ≡ false
-    go true true = refl
-    go true false = refl
-    go false t = refl
+    go : (t : Bool) → pointwise nat_eq xs ys ≡ same xs ys → (t && pointwise nat_eq xs ys) ≡ elim t [ true ↦ same xs ys | false ↦ false ]
+    go true e = e
+    go false e = refl
 
-pub dots_begin_otherwise : (n : List ℕ) → (get_or n 0 0 ≡ dot → ⊥) → dots n ≡ false
-unfolding dots same
-dots_begin_otherwise [] h = refl
-dots_begin_otherwise (a ∷ n) h = simp (ne_eqb a dot h, same)
-
-pub dots_one : (n : List ℕ) → length n ≡ 1 → get_or n 0 0 ≡ dot → dots n ≡ true
-unfolding dots same
-dots_one [] h e = absurd (omega arith)
-dots_one (a ∷ []) h e = simp (eq-eqb a dot e, same)
-dots_one (a ∷ (b ∷ n)) h e = absurd (omega arith)
-
-pub dots_two : (n : List ℕ) → length n ≤ 2 → (length n ≡ 1 → ⊥) → get_or n 0 0 ≡ dot → dots n ≡ eqb (get_or n 1 0) dot
-unfolding dots same
-dots_two [] h l e = absurd (omega arith)
-dots_two (a ∷ []) h l e = absurd (l refl)
-dots_two (a ∷ (b ∷ [])) h l e = simp (eq-eqb a dot e, same) (go (eqb b dot))
-  where
-    go : (t : Bool) → elim t [ true ↦ true | false ↦ false ] ≡ t
-    go true = refl
-    go false = refl
-dots_two (a ∷ (b ∷ (c ∷ n))) h l e = absurd (omega arith)
+pub dots_told : (n : List ℕ) → (pointwise nat_eq n (dot ∷ []) || pointwise nat_eq n (dot ∷ dot ∷ [])) ≡ dots n
+unfolding dots
+dots_told n = rw (same_as n (dot ∷ []), same_as n (dot ∷ dot ∷ []))
 
 -- A NAME
 
@@ -74,13 +52,10 @@ one_of true false true e = refl
 one_of false false true e = refl
 one_of a false false e = absurd (false≢true e)
 
-pub name_empty : (n : List ℕ) → length n < 1 → valid_name n ≡ false
+pub name_out_of_bounds : (n : List ℕ) → (length n < 1) ⊎ (14 < length n) → valid_name n ≡ false
 unfolding valid_name
-name_empty n h = rw (lt-leb 1 (length n) h)
-
-pub name_longer : (n : List ℕ) → 1 ≤ length n → 14 < length n → valid_name n ≡ false
-unfolding valid_name
-name_longer n g h = rw (le-leb 1 (length n) g, lt-leb (length n) 14 h)
+name_out_of_bounds n (inl h) = rw (lt-leb 1 (length n) h)
+name_out_of_bounds n (inr h) = rw (le-leb 1 (length n) (omega arith), lt-leb (length n) 14 h)
 
 pub name_of_dots : (n : List ℕ) → dots n ≡ true → valid_name n ≡ false
 unfolding valid_name dots

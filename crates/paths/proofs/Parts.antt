@@ -1,14 +1,18 @@
 -- What stands between the slashes of a path: the first part, and the parts behind it. Assumes nothing.
-use mathlib.Core.Path.{◌≡◌, refl, ap}
-use mathlib.Core.Bool.{Bool, true, false}
+use mathlib.Core.Path.{◌≡◌, refl, ap, ◌∙◌}
+use mathlib.Core.Bool.{Bool, true, false, cond}
 use mathlib.Core.List.{List, [], ◌∷◌}
-use Prim.Native.Nat.{ℕ, suc, ◌+◌, ◌≤◌, ◌<◌}
+use Prim.Native.Nat.{ℕ, suc, ◌+◌, ◌-◌, ◌≤◌, ◌<◌}
 use native.Mathlib.Omega.{arith}
 use native.Mathlib.Numerals.{add-one}
-use lib.Dec.{eqb}
-use lib.ListN.{length, get_or, take, drop, length-take, drop_of_length-le}
-use lib.Seq.{drop-cons}
-use borrow.Author.Tests.{eq-eqb, ne_eqb, eqb-true}
+use lib.Dec.{eqb, ltb}
+use lib.ListN.{length, get_or, take, drop, length-take, length-drop, drop_of_length-le}
+use lib.Seq.{drop-cons, take_all}
+use borrow.Author.Tests.{eq-eqb, ne_eqb, eqb-true, ltb-false}
+use Rattle.std.specs.List.{slice_split, onto_first, position_or_len}
+use Rattle.std.specs.Option.{unwrap_or}
+use Rattle.std.specs.Prelude.{Option, Some, None}
+use Rattle.std.proofs.lemmas.List.Recursion.{is_position_or_len}
 use Rattle.model.specs.Paths.{slash, before, parts}
 use Rattle.paths.specs.Split.{first_of, first_part}
 
@@ -71,7 +75,46 @@ first_part_stops (b ∷ s) h = go (eqb b slash) refl h (first_part_stops s)
     go true e h f = rw (slash_ends b s e) (eqb-true b slash e)
     go false e h f = rw (byte_goes_on b s e) (f (omega (arith, ap length (byte_goes_on b s e))))
 
+-- THE LIBRARY'S WORDS
+
+-- the parts are what the library's `split` gives
+pub split_gives : (s : List ℕ) → slice_split (λ b. eqb b slash) s ≡ parts s
+unfolding parts before
+split_gives [] = refl
+split_gives (b ∷ s) = rw (split_gives s) (go (eqb b slash) (parts s))
+  where
+    go : (t : Bool) (ps : List (List ℕ)) → cond t ([] ∷ ps) (onto_first b ps) ≡ before t b ps
+    go true ps = refl
+    go false [] = refl
+    go false (part ∷ ps) = refl
+
+-- a first part ends where the library's `position` finds a slash
+pub slash_found : (s : List ℕ) → length (first_part s) ≡ position_or_len (λ b. eqb b slash) s
+unfolding first_part first_of parts
+slash_found s = is_position_or_len (λ xs. length (first_part xs)) (λ b. eqb b slash) refl step s
+  where
+    step : (b : ℕ) (xs : List ℕ) → length (first_part (b ∷ xs)) ≡ cond (eqb b slash) 0 (1 + length (first_part xs))
+    step b xs = go (eqb b slash) refl
+      where
+        go : (t : Bool) → eqb b slash ≡ t → length (first_part (b ∷ xs)) ≡ cond t 0 (1 + length (first_part xs))
+        go true e = ap length (slash_ends b xs e)
+        go false e = ap length (byte_goes_on b xs e) ∙ omega arith
+
+pub found_or_end : (s : List ℕ) (r : Option ℕ)
+    → r ≡ cond (ltb (position_or_len (λ b. eqb b slash) s) (length s)) (Some (position_or_len (λ b. eqb b slash) s)) None
+    → unwrap_or r (length s) ≡ length (first_part s)
+found_or_end s r e = rw (e, ← slash_found s) (go (ltb (length (first_part s)) (length s)) refl)
+  where
+    go : (t : Bool) → ltb (length (first_part s)) (length s) ≡ t
+        → unwrap_or (cond t (Some (length (first_part s))) None) (length s) ≡ length (first_part s)
+    go true e = refl
+    go false e = omega (arith, first_part_fits s, ltb-false (length (first_part s)) (length s) e)
+
 module _ (p : List ℕ) (i : ℕ) where
+  -- the code's `&path[at..]`
+  pub rest_whole : take (length p - i) (drop i p) ≡ drop i p
+  rest_whole = take_all _ _ (simp length-drop (omega arith))
+
   pub part_at_end : length p ≤ i → length (first_part (drop i p)) ≡ 0
   unfolding first_part first_of parts
   part_at_end h = rw (drop_of_length-le p h)

@@ -1,19 +1,17 @@
--- What stands from a position of a path on: its names and its parts there, the test of them, and the next name. Assumes nothing.
+-- What stands from a position of a path on: its names and its parts there, and the next name. Assumes nothing.
 use mathlib.Core.Path.{◌≡◌, refl, ◌∙◌}
-use mathlib.Core.Bool.{true, false}
 use mathlib.Core.List.{List, [], ◌∷◌}
 use Prim.Native.Nat.{ℕ, ◌+◌, ◌-◌, ◌≤◌, ◌<◌}
 use native.Mathlib.Nat.{add-zero}
 use native.Mathlib.Omega.{arith}
 use native.Mathlib.Numerals.{add-one}
-use lib.ListN.{length, get_or, take, drop, length-drop, drop_of_length-le}
-use lib.Seq.{drop-cons, drop-drop}
+use lib.ListN.{length, get_or, drop, length-drop, drop_of_length-le}
+use lib.Seq.{drop-cons}
 use borrow.Author.Tests.{eq-eqb, ne_eqb}
-use Rattle.model.specs.Lists.{all}
-use Rattle.model.specs.Paths.{slash, parts, absolute, names_behind, names, valid_name}
+use Rattle.model.specs.Paths.{slash, parts, absolute, names_behind, names}
 use Rattle.paths.specs.declared.Next.TheVariants.{Name, End}
 use Rattle.paths.specs.Split.{first_part, slashes, located, next}
-use Rattle.paths.proofs.Parts.{behind, parts_split, first_part_begins, first_part_fits}
+use Rattle.paths.proofs.Parts.{parts_split}
 
 -- THE NAMES FROM A POSITION ON
 
@@ -75,33 +73,3 @@ module _ (p : List ℕ) (at : ℕ) where
   next_to_end start end e q =
       let n : end - start ≡ length (first_part (drop start p)) = omega arith in
       rw (n, q)
-
--- THE TEST OF ALL PARTS
-
-module _ (p : List ℕ) (at end : ℕ) (inside : at ≤ length p) (ends : end ≡ at + length (first_part (drop at p))) where
-  pub end_fits : end ≤ length p
-  end_fits = omega (arith, first_part_fits (drop at p), length-drop at p)
-
-  pub part_there : take (end - at) (drop at p) ≡ first_part (drop at p)
-  part_there =
-      let e : end - at ≡ length (first_part (drop at p)) = omega arith in
-      rw e (first_part_begins (drop at p))
-
-  -- the part is there, and behind it stands what comes after its end
-  pub split_there : parts (drop at p) ≡ take (end - at) (drop at p) ∷ behind (drop end p)
-  split_there = rw (part_there, ends, ← drop-drop) (parts_split (drop at p))
-
-  pub part_fails : valid_name (take (end - at) (drop at p)) ≡ false → all valid_name (parts (drop at p)) ≡ false
-  unfolding all
-  part_fails e = rw (split_there, e)
-
-  pub part_is_last : valid_name (take (end - at) (drop at p)) ≡ true → end ≡ length p → all valid_name (parts (drop at p)) ≡ true
-  unfolding all behind
-  part_is_last e h = rw (split_there, e, drop_of_length-le p {i = end} (omega arith))
-
-  pub part_goes_on : valid_name (take (end - at) (drop at p)) ≡ true → (end ≡ length p → ⊥)
-      → all valid_name (parts (drop at p)) ≡ all valid_name (parts (drop (end + 1) p))
-  unfolding all behind
-  part_goes_on e n =
-      let fits = end_fits in
-      rw (split_there, e, drop-cons p end 0 (omega arith), add-one)

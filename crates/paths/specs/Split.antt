@@ -1,7 +1,7 @@
 -- The split of a path, by the model's `names`, and what the path test asks on its way. Assumes nothing.
 use Rattle.std.specs.Prelude.{Bool, true, false, ◌||◌, List, [], ◌∷◌, ℕ, ◌+◌, length, drop}
 use Rattle.model.specs.Lists.{same}
-use Rattle.model.specs.Paths.{dot, parts, absolute, names, name_byte}
+use Rattle.model.specs.Paths.{dot, parts, absolute, names}
 use Rattle.paths.specs.declared.Next.{Next}
 use Rattle.paths.specs.declared.Next.TheVariants.{Name, End}
 
@@ -25,11 +25,6 @@ first_of (part ∷ others) = part
 
 unfoldable pub first_part : List ℕ → List ℕ
 first_part s = first_of (parts s)
-
--- the bytes at the front that a name can have
-unfoldable pub clean : List ℕ → List ℕ
-clean [] = []
-clean (b ∷ s) = elim (name_byte b) [ true ↦ b ∷ clean s | false ↦ [] ]
 
 -- the two names that no name may be
 unfoldable pub dots : List ℕ → Bool

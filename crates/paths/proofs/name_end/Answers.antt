@@ -1,16 +1,19 @@
--- `paths::name_end` meets its contract. The loop's invariant: the first part from `end` on ends where the one from `at` on does.
--- Assumes nothing.
-use native.Mathlib.Omega.{arith}
-use Rattle.paths.proofs.Parts.{part_at_end, part_at_slash, part_at_byte}
+-- `paths::name_end` meets its contract. Assumes nothing.
+use mathlib.Core.Path.{ap, ◌∙◌}
+use Prim.Native.Nat.{ℕ, ◌+◌}
+use lib.Dec.{eqb}
+use Rattle.std.proofs.Common.{rules, tests}
+use Rattle.std.proofs.lemmas.Iterator.{YieldsList-from_slice}
+use Rattle.std.proofs.lemmas.Iterator.Search.{position_from_yields_List}
+use Rattle.model.specs.Paths.{slash}
+use Rattle.paths.proofs.Parts.{rest_whole, found_or_end}
 use Rattle.paths.proofs.name_end.Goals as goal
 
-pub returns-then-path-end-eq-SLASH : goal.returns-then-path-end-eq-SLASH
-returns-then-path-end-eq-SLASH c = omega (arith, part_at_slash c.args.path.now c.loop-end.end (omega arith) c.if-path-end-eq-SLASH.true)
-
-pub loop-end-preserved : goal.loop-end-preserved
-loop-end-preserved c =
-    let h = part_at_byte c.args.path.now c.loop-end.end (omega arith) c.if-path-end-eq-SLASH.false in
-    omega arith
-
 pub returns : goal.returns
-returns c = omega (arith, part_at_end c.args.path.now c.loop-end.end (omega arith))
+returns c =
+    let whole = rest_whole c.args.path.now c.args.at in
+    let given = rw whole at c.iter.ensures.rest in
+    let found =
+    position_from_yields_List (λ b. eqb b slash) _ _ c.position.result c.position.ensures.ran (YieldsList-from_slice _ given) (λ x b q k. search (rules, tests))
+    in
+    ap (λ (n : ℕ). c.args.at + n) (rw whole at c.unwrap_or.ensures ∙ found_or_end _ c.position.result found)

@@ -1,14 +1,18 @@
 -- `paths::valid_length` meets its contract. Assumes nothing.
 use mathlib.Core.Bool.{not}
+use mathlib.Core.Logic.{◌⊎◌}
 use mathlib.Core.Path.{sym, ap, ◌∙◌}
-use Rattle.paths.proofs.Names.{name_empty, name_longer, name_by_dots}
+use Prim.Native.Nat.{◌<◌}
+use lib.ListN.{length}
+use Rattle.std.proofs.Common.{arith}
+use Rattle.std.proofs.lemmas.Bool.Decides.{nat_tests}
+use Rattle.paths.proofs.Names.{name_out_of_bounds, name_by_dots}
 use Rattle.paths.proofs.valid_length.Goals as goal
 
-pub returns-then-name-lt1 : goal.returns-then-name-lt1
-returns-then-name-lt1 c = sym (name_empty _ c.if-name-lt1.true)
+pub returns-then-contains : goal.returns-then-contains
+returns-then-contains c = ap not c.is_dots.ensures ∙ name_by_dots _ (grind (arith, nat_tests)) (grind (arith, nat_tests)) c.requires
 
-pub returns-then-name-gt-LONGEST_NAME : goal.returns-then-name-gt-LONGEST_NAME
-returns-then-name-gt-LONGEST_NAME c = sym (name_longer _ c.if-name-lt1.false c.if-name-gt-LONGEST_NAME.true)
-
-pub returns : goal.returns
-returns c = ap not c.is_dots.ensures ∙ name_by_dots _ c.if-name-lt1.false c.if-name-gt-LONGEST_NAME.false c.requires
+pub returns-else-contains : goal.returns-else-contains
+returns-else-contains c =
+    let out : (length c.args.name.now < 1) ⊎ (14 < length c.args.name.now) = grind (arith, nat_tests) in
+    c.if-contains.false ∙ sym (name_out_of_bounds _ out)

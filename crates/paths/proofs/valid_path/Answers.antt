@@ -1,16 +1,27 @@
 -- `paths::valid_path` meets its contract. Assumes nothing.
 use mathlib.Core.Path.{sym, ◌∙◌}
-use Rattle.paths.proofs.Validity.{path_empty, path_longer, path_relative, path_by_names}
+use borrow.Author.Tests.{lt-leb}
+use Rattle.laws.proofs.Bools.{clash}
+use Rattle.paths.proofs.Validity.{absolute_told, path_longer, path_relative, path_by_names}
 use Rattle.paths.proofs.valid_path.Goals as goal
+use Rattle.paths.proofs.valid_path.Goals.{then-path-le-LONGEST_PATH, else-path-le-LONGEST_PATH}
 
-pub returns-then-path-lt1 : goal.returns-then-path-lt1
-returns-then-path-lt1 c = sym (path_empty _ c.if-path-lt1.true)
+pub returns-then-starts_with : goal.returns-then-starts_with
+returns-then-starts_with c =
+    c.valid_names.ensures
+    ∙ elim c.if-path-le-LONGEST_PATH.branch [
+      | then-path-le-LONGEST_PATH w ↦
+          let told = rw w.as_slice.ensures at w.starts_with.ensures.value in
+          sym (path_by_names _ w.if-path-le-LONGEST_PATH.true (sym (told ∙ absolute_told _) ∙ sym w.value-is ∙ c.if-starts_with.true))
+      | else-path-le-LONGEST_PATH w ↦ clash c.if-starts_with.true (w.value-is ∙ lt-leb _ 255 w.if-path-le-LONGEST_PATH.false)
+    ]
 
-pub returns-then-path-gt-LONGEST_PATH : goal.returns-then-path-gt-LONGEST_PATH
-returns-then-path-gt-LONGEST_PATH c = sym (path_longer _ c.if-path-lt1.false c.if-path-gt-LONGEST_PATH.true)
-
-pub returns-then-path-ne-SLASH : goal.returns-then-path-ne-SLASH
-returns-then-path-ne-SLASH c = sym (path_relative _ c.if-path-lt1.false c.if-path-gt-LONGEST_PATH.false c.if-path-ne-SLASH.true)
-
-pub returns : goal.returns
-returns c = c.valid_names.ensures ∙ sym (path_by_names _ c.if-path-lt1.false c.if-path-gt-LONGEST_PATH.false c.if-path-ne-SLASH.false)
+pub returns-else-starts_with : goal.returns-else-starts_with
+returns-else-starts_with c =
+    c.if-starts_with.false
+    ∙ elim c.if-path-le-LONGEST_PATH.branch [
+      | then-path-le-LONGEST_PATH w ↦
+          let told = rw w.as_slice.ensures at w.starts_with.ensures.value in
+          sym (path_relative _ w.if-path-le-LONGEST_PATH.true (sym (told ∙ absolute_told _) ∙ sym w.value-is ∙ c.if-starts_with.false))
+      | else-path-le-LONGEST_PATH w ↦ sym (path_longer _ w.if-path-le-LONGEST_PATH.false)
+    ]

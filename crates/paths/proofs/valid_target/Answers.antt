@@ -1,13 +1,17 @@
 -- `paths::valid_target` meets its contract. Assumes nothing.
+use mathlib.Core.Logic.{◌⊎◌}
 use mathlib.Core.Path.{sym, ◌∙◌}
-use Rattle.paths.proofs.Validity.{target_empty, target_longer, target_by_names}
+use Prim.Native.Nat.{◌<◌}
+use lib.ListN.{length}
+use Rattle.std.proofs.Common.{arith}
+use Rattle.std.proofs.lemmas.Bool.Decides.{nat_tests}
+use Rattle.paths.proofs.Validity.{target_out_of_bounds, target_by_names}
 use Rattle.paths.proofs.valid_target.Goals as goal
 
-pub returns-then-target-lt1 : goal.returns-then-target-lt1
-returns-then-target-lt1 c = sym (target_empty _ c.if-target-lt1.true)
+pub returns-then-contains : goal.returns-then-contains
+returns-then-contains c = c.valid_names.ensures ∙ sym (target_by_names _ (grind (arith, nat_tests)) (grind (arith, nat_tests)))
 
-pub returns-then-target-gt-LONGEST_TARGET : goal.returns-then-target-gt-LONGEST_TARGET
-returns-then-target-gt-LONGEST_TARGET c = sym (target_longer _ c.if-target-lt1.false c.if-target-gt-LONGEST_TARGET.true)
-
-pub returns : goal.returns
-returns c = c.valid_names.ensures ∙ sym (target_by_names _ c.if-target-lt1.false c.if-target-gt-LONGEST_TARGET.false)
+pub returns-else-contains : goal.returns-else-contains
+returns-else-contains c =
+    let out : (length c.args.target.now < 1) ⊎ (64 < length c.args.target.now) = grind (arith, nat_tests) in
+    c.if-contains.false ∙ sym (target_out_of_bounds _ out)
