@@ -3,9 +3,10 @@ use mathlib.Core.Path.{◌≡◌, sym, ap, ◌∙◌}
 use mathlib.Core.Bool.{true, false}
 use mathlib.Core.Logic.{◌⊎◌, inl, inr}
 use mathlib.Core.List.{List, ◌∷◌, ◌++◌, append_assoc}
-use Prim.Native.Nat.{ℕ, zero, suc, ◌+◌, ◌*◌, ◌-◌, ◌/◌, ◌≤◌, ◌<◌}
+use Prim.Native.Nat.{ℕ, suc, ◌+◌, ◌*◌, ◌-◌, ◌/◌, ◌≤◌, ◌<◌}
 use native.Mathlib.Omega.{arith}
 use native.Mathlib.Decide.{ℕ_discrete}
+use native.Mathlib.Numerals.{add-one}
 use borrow.Author.Tests.{eq-eqb, ne_eqb}
 use lib.Dec.{eqb}
 use lib.ListN.{length, get_or, set, take, drop, length-take, length-drop, length-set, take-append-drop}
@@ -19,7 +20,7 @@ use Rattle.laws.proofs.Words.{NodeFits, node_back}
 use Rattle.rows.specs.Blocks.{target_words}
 use Rattle.rows.specs.Stands.{Stands, Becomes, node_row}
 use Rattle.rows.proofs.Parts.{part, node_part, mid_long, nodes_full, in_part, read_node}
-use Rattle.rows.proofs.Fields.{node_row_fits, node_packed, node_head, node_in_row}
+use Rattle.rows.proofs.Fields.{node_row_fits, node_packed, node_head, node_of_row}
 use Rattle.rows.proofs.Writes.{put_part, write_node}
 use Rattle.edits.specs.Nodes.{with_count}
 
@@ -73,10 +74,9 @@ module _ {w : List ℕ} (s : Stands w) (row : ℕ) (r : row < node_rows) (count 
 
 -- A NODE BY ITS NUMBER
 
-set_in_row : (n : ℕ) (x : Node) (xs : List Node) → 1 ≤ n → set_node n x xs ≡ set xs (n - 1) x
+set_in_row : {n : ℕ} (row : ℕ) (x : Node) (xs : List Node) → n ≡ row + 1 → set_node n x xs ≡ set xs row x
 unfolding set_node
-set_in_row zero x xs h = let z : ⊥ = omega arith in absurd z
-set_in_row (suc n) x xs h = let e : suc n - 1 ≡ n = omega arith in ap (λ m. set xs m x) (sym e)
+set_in_row row x xs e = ap (λ m. set_node m x xs) (e ∙ add-one row)
 
 module _ {w : List ℕ} (s : Stands w) (n : ℕ) where
   -- no node has this number, so none is set
@@ -85,33 +85,33 @@ module _ {w : List ℕ} (s : Stands w) (n : ℕ) where
   no_node_set (inl e) x = record { stands = s; tables = ap (λ m. with_nodes (unpack w) (set_node m x (unpack w).nodes)) (sym e) }
   no_node_set (inr h) x =
       let m : length (unpack w).nodes ≤ n - 1 = omega (arith, nodes_full w) in
-      record { stands = s; tables = ap (with_nodes (unpack w)) (sym (set_in_row n x (unpack w).nodes (omega arith) ∙ set_out (unpack w).nodes (n - 1) x m)) }
+      record { stands = s; tables = ap (with_nodes (unpack w)) (sym (set_in_row (n - 1) x (unpack w).nodes (omega arith) ∙ set_out (unpack w).nodes (n - 1) x m)) }
 
-  module _ (h : 1 ≤ n) where
-    numbered_set : (x y : Node) → x ≡ y → {v : List ℕ} → Becomes v (with_nodes (unpack w) (set (unpack w).nodes (n - 1) x))
+  module _ (row : ℕ) (h : n ≡ row + 1) where
+    numbered_set : (x y : Node) → x ≡ y → {v : List ℕ} → Becomes v (with_nodes (unpack w) (set (unpack w).nodes row x))
         → Becomes v (with_nodes (unpack w) (set_node n y (unpack w).nodes))
     numbered_set x y e b =
         record {
           stands = b.stands;
-          tables = b.tables ∙ ap (λ z. with_nodes (unpack w) (set (unpack w).nodes (n - 1) z)) e ∙ ap (with_nodes (unpack w)) (sym (set_in_row n y (unpack w).nodes h));
+          tables = b.tables ∙ ap (λ z. with_nodes (unpack w) (set (unpack w).nodes row z)) e ∙ ap (with_nodes (unpack w)) (sym (set_in_row row y (unpack w).nodes h));
         }
 
-    there : node_row w (n - 1) ≡ node_at (unpack w).nodes n
-    there = sym (node_in_row (unpack w).nodes n h)
+    there : node_row w row ≡ node_at (unpack w).nodes n
+    there = sym (node_of_row (unpack w).nodes row h)
 
-    pub one_more_set : {c : ℕ} {v : List ℕ} → c ≡ (node_row w (n - 1)).count
-        → Becomes v (with_nodes (unpack w) (set (unpack w).nodes (n - 1) (with_count (c + 1) (node_row w (n - 1)))))
+    pub one_more_set : {c : ℕ} {v : List ℕ} → c ≡ (node_row w row).count
+        → Becomes v (with_nodes (unpack w) (set (unpack w).nodes row (with_count (c + 1) (node_row w row))))
         → Becomes v (with_nodes (unpack w) (set_node n (one_more (node_at (unpack w).nodes n)) (unpack w).nodes))
     unfolding with_count one_more
     one_more_set {c} e b =
-        numbered_set (with_count (c + 1) (node_row w (n - 1))) (one_more (node_at (unpack w).nodes n)) (ap (λ k. with_count (k + 1) (node_row w (n - 1))) e ∙ ap one_more there) b
+        numbered_set (with_count (c + 1) (node_row w row)) (one_more (node_at (unpack w).nodes n)) (ap (λ k. with_count (k + 1) (node_row w row)) e ∙ ap one_more there) b
 
-    pub one_less_none : {c : ℕ} → c ≡ (node_row w (n - 1)).count → c ≡ 0
+    pub one_less_none : {c : ℕ} → c ≡ (node_row w row).count → c ≡ 0
         → Becomes w (with_nodes (unpack w) (set_node n (one_less (node_at (unpack w).nodes n)) (unpack w).nodes))
     unfolding one_less
     one_less_none {c} e z =
-        numbered_set (node_row w (n - 1)) (one_less (node_at (unpack w).nodes n)) (same (node_row w (n - 1)) (sym e ∙ z) ∙ ap one_less there)
-        (record { stands = s; tables = ap (with_nodes (unpack w)) (sym (set-get_or (unpack w).nodes (n - 1) no_node)) })
+        numbered_set (node_row w row) (one_less (node_at (unpack w).nodes n)) (same (node_row w row) (sym e ∙ z) ∙ ap one_less there)
+        (record { stands = s; tables = ap (with_nodes (unpack w)) (sym (set-get_or (unpack w).nodes row no_node)) })
       where
         same : (x : Node) → x.count ≡ 0 → x ≡ one_less x
         same x q =
@@ -119,25 +119,25 @@ module _ {w : List ℕ} (s : Stands w) (n : ℕ) where
             let b : x.count - 1 ≡ x.count = omega arith in
             simp (a, b, one_less)
 
-    pub one_less_last : {c : ℕ} {v : List ℕ} → c ≡ (node_row w (n - 1)).count → c ≡ 1 → Becomes v (with_nodes (unpack w) (set (unpack w).nodes (n - 1) no_node))
+    pub one_less_last : {c : ℕ} {v : List ℕ} → c ≡ (node_row w row).count → c ≡ 1 → Becomes v (with_nodes (unpack w) (set (unpack w).nodes row no_node))
         → Becomes v (with_nodes (unpack w) (set_node n (one_less (node_at (unpack w).nodes n)) (unpack w).nodes))
     unfolding one_less
     one_less_last {c} e z b =
         numbered_set no_node (one_less (node_at (unpack w).nodes n))
-        (let a : eqb (node_row w (n - 1)).count 1 ≡ true = eq-eqb (node_row w (n - 1)).count 1 (sym e ∙ z) in
-        let k : no_node ≡ one_less (node_row w (n - 1)) = simp (a, one_less) in
+        (let a : eqb (node_row w row).count 1 ≡ true = eq-eqb (node_row w row).count 1 (sym e ∙ z) in
+        let k : no_node ≡ one_less (node_row w row) = simp (a, one_less) in
         k ∙ ap one_less there)
         b
 
-    pub one_less_set : {c : ℕ} {v : List ℕ} → c ≡ (node_row w (n - 1)).count → (c ≡ 1 → ⊥)
-        → Becomes v (with_nodes (unpack w) (set (unpack w).nodes (n - 1) (with_count (c - 1) (node_row w (n - 1)))))
+    pub one_less_set : {c : ℕ} {v : List ℕ} → c ≡ (node_row w row).count → (c ≡ 1 → ⊥)
+        → Becomes v (with_nodes (unpack w) (set (unpack w).nodes row (with_count (c - 1) (node_row w row))))
         → Becomes v (with_nodes (unpack w) (set_node n (one_less (node_at (unpack w).nodes n)) (unpack w).nodes))
     unfolding with_count one_less
     one_less_set {c} e z b =
-        numbered_set (with_count (c - 1) (node_row w (n - 1))) (one_less (node_at (unpack w).nodes n))
-        (ap (λ k. with_count (k - 1) (node_row w (n - 1))) e
-        ∙ (let a : eqb (node_row w (n - 1)).count 1 ≡ false = ne_eqb (node_row w (n - 1)).count 1 (λ k. z (e ∙ k)) in
-        let k : with_count ((node_row w (n - 1)).count - 1) (node_row w (n - 1)) ≡ one_less (node_row w (n - 1)) = simp (a, one_less) in
+        numbered_set (with_count (c - 1) (node_row w row)) (one_less (node_at (unpack w).nodes n))
+        (ap (λ k. with_count (k - 1) (node_row w row)) e
+        ∙ (let a : eqb (node_row w row).count 1 ≡ false = ne_eqb (node_row w row).count 1 (λ k. z (e ∙ k)) in
+        let k : with_count ((node_row w row).count - 1) (node_row w row) ≡ one_less (node_row w row) = simp (a, one_less) in
         k ∙ ap one_less there))
         b
 

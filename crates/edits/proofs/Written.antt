@@ -2,13 +2,14 @@
 use mathlib.Core.Path.{◌≡◌, refl, sym, ap, ◌∙◌}
 use mathlib.Core.Bool.{false}
 use mathlib.Core.List.{List, [], ◌∷◌}
-use Prim.Native.Nat.{ℕ, suc, ◌+◌, ◌*◌, ◌/◌, ◌%◌, ◌≤◌, ◌<◌}
+use Prim.Native.Nat.{ℕ, suc, ◌+◌, ◌*◌, ◌-◌, ◌/◌, ◌%◌, ◌≤◌, ◌<◌}
 use native.Mathlib.Omega.{arith}
 use native.Mathlib.Numerals.{add-one, towards_suc}
 use borrow.Author.Tests.{ne_eqb}
 use lib.Dec.{eqb}
-use lib.ListN.{length, get_or, set, take, replicate}
-use lib.Seq.{sets, take-length}
+use borrow.Rule.Slice.PartMut.{put_mid}
+use lib.ListN.{length, get_or, set, take, drop, replicate, length-drop, length-replicate}
+use lib.Seq.{sets, take-length, length-take-le}
 use Rattle.model.specs.Lists.{filled}
 use Rattle.model.specs.Paths.{longest_target}
 use Rattle.model.specs.Tables.{entry_rows, node_rows, hold_rows, process_rows, no_entry, no_node, no_hold, no_process, free_entry, free_node, free_hold, free_process}
@@ -24,16 +25,28 @@ use Rattle.rows.specs.declared.HoldRow.{HoldRow}
 use Rattle.rows.specs.Blocks.{target_words, name_of, Named, place_of, word_from}
 use Rattle.rows.specs.Rows.{entry_of, hold_of, named_as_words, entry_as_words, hold_as_words, GoodEntry, GoodHold}
 use Rattle.rows.specs.Stands.{Stands, Becomes}
-use Rattle.rows.proofs.Bytes.{target_word}
+use Rattle.rows.proofs.Bytes.{put_is_sets, target_word}
 use Rattle.rows.proofs.Parts.{part, entry_part, node_part, hold_part, process_part}
 use Rattle.rows.proofs.Writes.{put_part, write_entry, write_node, write_hold, write_process}
 use Rattle.edits.specs.Nodes.{node_as_words}
 
 -- THE STORES OF A ROW
 
-pub named_stored : (l : List ℕ) (at upper lower : ℕ) (b : Block) {a : ℕ} → a ≡ upper * 65536 + lower
-    → set (set (set (set (set l at a) (at + 1) b.first) (at + 2) b.second) (at + 3) b.third) (at + 4) b.fourth ≡ sets l at (named_as_words upper lower b)
-named_stored l at upper lower b q = rw q (simp towards_suc)
+-- a range of a slice, written as a whole
+part_stored : (l : List ℕ) (at count : ℕ) (vs : List ℕ) {p : List ℕ} → at + count ≤ length l → length vs ≡ count → p ≡ vs
+    → put_mid at (at + count - at) l p ≡ sets l at vs
+part_stored l at count vs h e q = let n : at + count - at ≡ count = omega arith in rw (n, q) (put_is_sets at count l vs e h)
+
+pub zeros_stored : (l : List ℕ) (at count : ℕ) {p : List ℕ} → at + count ≤ length l → p ≡ replicate (length (take (at + count - at) (drop at l))) 0
+    → put_mid at (at + count - at) l p ≡ sets l at (replicate count 0)
+zeros_stored l at count h q =
+    let n : length (take (at + count - at) (drop at l)) ≡ count = length-take-le (at + count - at) (drop at l) (omega (arith, length-drop at l)) ∙ omega arith in
+    part_stored l at count (replicate count 0) h (length-replicate {A = ℕ} count 0) (q ∙ ap (λ m. replicate m 0) n)
+
+pub named_stored : (l : List ℕ) (at upper lower : ℕ) (b : Block) {a : ℕ} {p : List ℕ} → at + entry_words ≤ length l → a ≡ upper * 65536 + lower
+    → p ≡ a ∷ b.first ∷ b.second ∷ b.third ∷ b.fourth ∷ [] → put_mid at (at + entry_words - at) l p ≡ sets l at (named_as_words upper lower b)
+named_stored l at upper lower b h e q =
+    part_stored l at entry_words (named_as_words upper lower b) h refl (q ∙ ap (λ x. x ∷ b.first ∷ b.second ∷ b.third ∷ b.fourth ∷ []) e)
 
 pub hold_stored : (l : List ℕ) (at : ℕ) (h : HoldRow) {a : ℕ} {v : List ℕ} → v ≡ sets l at (named_as_words h.directory h.process h.name) → a ≡ h.role * 1073741824
     → set v (at + 5) a ≡ sets l at (hold_as_words h)

@@ -15,14 +15,14 @@ ghost use Rattle.edits.specs.Nodes.{node_as_words, with_count};
 
 use rows::{
     Block, COUNT_UNIT, ENTRY_WIDTH, EntryRow, HOLD_WIDTH, HOLDS_START, HoldRow, LENGTH_UNIT,
-    NODE_ROWS, NODE_WIDTH, NODES_START, PROCESSES_START, ROLE_PLACE, TARGET_WORDS, TOP_UNIT,
-    UPPER_UNIT, WORD_COUNT, count_in, four_bytes,
+    NODE_WIDTH, NODES_START, PROCESSES_START, ROLE_PLACE, TARGET_WORDS, TOP_UNIT, UPPER_UNIT,
+    WORD_COUNT, count_in, four_bytes, row_of_node,
 };
 
 fn pair_of(upper: u16, lower: u16) -> u32
     ensures { result ≡ upper * 65536 + lower }
 {
-    upper as u32 * UPPER_UNIT + lower as u32
+    u32::from(upper) * UPPER_UNIT + u32::from(lower)
 }
 
 // Zeros from `at` on.
@@ -30,11 +30,7 @@ fn put_zeros(part: &mut [u32], at: usize, count: usize)
     requires { at + count ≤ length part.old }
     ensures { part.new ≡ sets part.old at (replicate count 0) }
 {
-    let mut k = 0;
-    while k < count {
-        part[at + k] = 0;
-        k += 1;
-    }
+    part[at..at + count].fill(0);
 }
 
 // What an entry and a hold begin with: two numbers in one word, and a name.
@@ -42,15 +38,18 @@ fn put_named(part: &mut [u32], at: usize, upper: u16, lower: u16, name: Block)
     requires { at + entry_words ≤ length part.old }
     ensures { part.new ≡ sets part.old at (named_as_words upper lower name) }
 {
-    part[at] = pair_of(upper, lower);
-    part[at + 1] = name.first;
-    part[at + 2] = name.second;
-    part[at + 3] = name.third;
-    part[at + 4] = name.fourth;
+    part[at..at + ENTRY_WIDTH].copy_from_slice(&[
+        pair_of(upper, lower),
+        name.first,
+        name.second,
+        name.third,
+        name.fourth,
+    ]);
 }
 
 // ENTRIES
 
+// stays: what is set or cleared in each table has its own clause on that table; each body is one call that lends the table's part, no plainer.
 pub fn set_entry(words: &mut [u32], row: usize, entry: EntryRow)
     requires { (Stands words.old) × ((row < entry_rows) × (GoodEntry entry)) }
     ensures { Becomes words.new (with_entries (unpack words.old) (set (unpack words.old).entries row (entry_of entry))) }
@@ -78,7 +77,7 @@ fn node_head(kind: u8, length: usize, count: u16) -> u32
     requires { (kind < 4) × ((length < 128) × (count < 1024)) }
     ensures { result ≡ kind * 1073741824 + length * 8388608 + count * 8192 }
 {
-    kind as u32 * TOP_UNIT + length as u32 * LENGTH_UNIT + count as u32 * COUNT_UNIT
+    u32::from(kind) * TOP_UNIT + length as u32 * LENGTH_UNIT + u32::from(count) * COUNT_UNIT
 }
 
 // The target's bytes, four to a word, and zeros behind them.
@@ -86,10 +85,8 @@ fn put_target(nodes: &mut [u32], at: usize, target: &[u8])
     requires { (at + target_words ≤ length nodes.old) × (length target.now ≤ longest_target) }
     ensures { nodes.new ≡ sets nodes.old at (words (filled longest_target target.now)) }
 {
-    let mut k = 0;
-    while k < TARGET_WORDS {
+    for k in 0..TARGET_WORDS {
         nodes[at + k] = four_bytes(target, 0, target.len(), k * 4);
-        k += 1;
     }
 }
 
@@ -132,7 +129,7 @@ fn role_word(role: u8) -> u32
     requires { role < 4 }
     ensures { result ≡ role * 1073741824 }
 {
-    role as u32 * TOP_UNIT
+    u32::from(role) * TOP_UNIT
 }
 
 fn put_hold(holds: &mut [u32], row: usize, hold: HoldRow)
@@ -193,7 +190,7 @@ fn recounted(head: u32, count: u16) -> u32
     requires { count < 1024 }
     ensures { result ≡ head / 8388608 * 8388608 + count * 8192 }
 {
-    head / LENGTH_UNIT * LENGTH_UNIT + count as u32 * COUNT_UNIT
+    head / LENGTH_UNIT * LENGTH_UNIT + u32::from(count) * COUNT_UNIT
 }
 
 fn put_count(nodes: &mut [u32], row: usize, count: u16)
@@ -216,15 +213,10 @@ pub fn add_one_entry(words: &mut [u32], node: u16)
     requires { (Stands words.old) × ((1 ≤ (node_at (unpack words.old).nodes node).kind) × ((node_at (unpack words.old).nodes node).count < 1023)) }
     ensures { Becomes words.new (with_nodes (unpack words.old) (set_node node (one_more (node_at (unpack words.old).nodes node)) (unpack words.old).nodes)) }
 {
-    let number = node as usize;
-    if number == 0 {
-        return;
+    if let Some(row) = row_of_node(node) {
+        let count = count_in(words, row);
+        set_count(words, row, count + 1);
     }
-    if number > NODE_ROWS {
-        return;
-    }
-    let count = count_in(words, number - 1);
-    set_count(words, number - 1, count + 1);
 }
 
 // One entry less leads to the node; it is cleared where that was the last.
@@ -232,20 +224,11 @@ pub fn drop_one_entry(words: &mut [u32], node: u16)
     requires { Stands words.old }
     ensures { Becomes words.new (with_nodes (unpack words.old) (set_node node (one_less (node_at (unpack words.old).nodes node)) (unpack words.old).nodes)) }
 {
-    let number = node as usize;
-    if number == 0 {
-        return;
+    if let Some(row) = row_of_node(node) {
+        match count_in(words, row) {
+            0 => {}
+            1 => clear_node(words, row),
+            count => set_count(words, row, count - 1),
+        }
     }
-    if number > NODE_ROWS {
-        return;
-    }
-    let count = count_in(words, number - 1);
-    if count == 0 {
-        return;
-    }
-    if count == 1 {
-        clear_node(words, number - 1);
-        return;
-    }
-    set_count(words, number - 1, count - 1);
 }

@@ -7,4 +7,4 @@ pub returns : goal.returns
 returns c =
     set_node_is c.args.kind c.args.count c.args.target.now c.requires.1.1.0 c.requires.0 c.args.row
     c.requires.1.0 c.requires.1.1.1.0 c.requires.1.1.1.1.0 c.requires.1.1.1.1.1
-    (λ i. omega (arith, c.shared_slice_known-1.given i)) c.put_node.ensures
+    (λ i. omega (arith, c.type_inv.target i)) c.put_node.ensures
