@@ -1,16 +1,16 @@
--- The scopes of a walk's end, and by them the model's own tests: who is in the way, and what root drops. Assumes nothing.
-use mathlib.Core.Path.{◌≡◌, refl, sym, ap, subst, ◌∙◌}
-use mathlib.Core.Bool.{Bool, true, false, not, ◌&&◌}
+-- Where a walk stopped, and by that the model's own tests: who is in the way, and what root drops. Assumes nothing.
+use mathlib.Core.Path.{◌≡◌, sym, ap, subst, ◌∙◌}
+use mathlib.Core.Bool.{Bool, true, false, ◌&&◌}
 use mathlib.Core.Option.{none, some}
 use mathlib.Core.List.{List}
 use Prim.Native.Nat.{ℕ}
 use lib.Dec.{eqb}
 use Rattle.model.specs.Lists.{any}
-use Rattle.model.specs.Tables.{Tables, Hold, no_hold, free_hold, user_of, with_holds}
+use Rattle.model.specs.Tables.{Tables, Hold, no_hold, with_holds}
 use Rattle.model.specs.Sound.{is_end}
 use Rattle.model.specs.Words.{unpack}
 use Rattle.model.specs.Walk.{Goal}
-use Rattle.model.specs.Holds.{root, foreign, on, inside, of_process, end_held, entry_held, inside_held, drop_holds, preempted, overruled}
+use Rattle.model.specs.Holds.{root, foreign, on, inside, end_held, entry_held, inside_held, drop_holds, preempted, overruled}
 use Rattle.laws.proofs.Bools.{and_false}
 use Rattle.laws.proofs.Searches.{any_none, any_alike, clear_none}
 use Rattle.laws.proofs.Clears.{clear_alike}
@@ -21,9 +21,8 @@ use Rattle.goals.specs.declared.Place.{Place}
 use Rattle.goals.specs.declared.Stop.TheVariants.{Refused, Root, Entry}
 use Rattle.goals.specs.declared.Walk.{Walk}
 use Rattle.goals.specs.Goals.{goal_of, end_at, place_at, PlaceNamed, StopNamed, WalkNamed}
-use Rattle.holds.specs.declared.Scope.{Scope}
-use Rattle.holds.specs.declared.Scope.TheVariants.{Nothing, EndAt, EntryAt, Inside, Of}
-use Rattle.holds.specs.Scopes.{covers, ScopeNamed, Scoped, of_another, in_the_way}
+use Rattle.holds.specs.Asks.{of_another, holds_on, ends_on}
+use Rattle.holds.proofs.Tests.{another_is, held_is, ended_is, held_inside, ended_inside}
 
 -- WHERE A WALK STOPPED
 
@@ -40,84 +39,80 @@ module _ (w : Walk) where
   unfolding goal_of end_at
   entry_end e = ap end_at e
 
-  pub ends_nowhere : (goal_of w).end ≡ none → Scoped (λ h. is_end h && on (goal_of w).end h) Nothing
-  unfolding on covers ScopeNamed
-  ends_nowhere e = record { named = tt; same = λ h. sym (and_false (is_end h) (on (goal_of w).end h) (λ _. ap (λ o. on o h) e)) }
-
-  pub entry_nowhere : (goal_of w).end ≡ none → Scoped (on (goal_of w).end) Nothing
-  unfolding on covers ScopeNamed
-  entry_nowhere e = record { named = tt; same = λ h. sym (ap (λ o. on o h) e) }
-
   module _ (n : WalkNamed w) {q : Place} {k : ℕ} (e : w.stop ≡ Entry q k) where
     pub end_named : PlaceNamed q
     unfolding PlaceNamed StopNamed
     end_named = subst StopNamed e n.stop
 
-    pub ends_there : Scoped (λ h. is_end h && on (goal_of w).end h) (EndAt q)
-    unfolding covers ScopeNamed
-    ends_there = record { named = end_named; same = λ h. sym (ap (λ o. is_end h && on o h) (entry_end e)) }
+-- A WALK THAT STOPPED AT NO ENTRY: nothing is on its end
 
-    pub entry_there : Scoped (on (goal_of w).end) (EntryAt q)
-    unfolding covers ScopeNamed
-    entry_there = record { named = end_named; same = λ h. sym (ap (λ o. on o h) (entry_end e)) }
+module _ (t : Tables) (p : ℕ) (g : Goal) (e : g.end ≡ none) where
+  on_none : (h : Hold) → on g.end h ≡ false
+  unfolding on
+  on_none h = ap (λ o. on o h) e
 
-pub scoped_inside : (d : ℕ) → Scoped (inside d) (Inside d)
-unfolding covers ScopeNamed
-scoped_inside d = record { named = tt; same = λ h. refl }
+  and_there : (a : Bool) (h : Hold) → (a && on g.end h && foreign t p h) ≡ false
+  and_there a h = ap (λ b. b && foreign t p h) (and_false a (on g.end h) (λ _. on_none h))
 
-pub scoped_process : (p : ℕ) → Scoped (of_process p) (Of p)
-unfolding covers ScopeNamed
-scoped_process p = record { named = tt; same = λ h. refl }
+  pub none_end_held : false ≡ end_held t p g
+  unfolding end_held
+  none_end_held = sym (any_none (λ h. is_end h && on g.end h && foreign t p h) (λ h. and_there (is_end h) h) t.holds)
+
+  pub none_entry_held : false ≡ entry_held t p g
+  unfolding entry_held
+  none_entry_held = sym (any_none (λ h. on g.end h && foreign t p h) (λ h. ap (λ b. b && foreign t p h) (on_none h)) t.holds)
+
+  pub none_preempted_there : (h : Hold) → preempted t p g h ≡ false
+  unfolding preempted
+  none_preempted_there h = and_there (root t p && is_end h) h
+
+  pub none_overruled_there : (h : Hold) → overruled t p g h ≡ false
+  unfolding overruled
+  none_overruled_there h = and_there (root t p) h
 
 -- WHO IS IN THE WAY
 
 module _ (t : Tables) (c : Caller) (known : Known t.processes c) where
-  module _ {test : Hold → Bool} {scope : Scope} (s : Scoped test scope) where
-    way_is : (h : Hold) → in_the_way t.processes scope c.user h ≡ (test h && foreign t c.process h)
-    unfolding in_the_way of_another foreign
-    way_is h =
-        ap (λ b. b && of_another t.processes c.user h) (s.same h)
-        ∙ ap (λ u. test h && (not (free_hold h) && not (eqb (user_of t.processes h.process) u))) known.user
-
-    any_way : {r : Bool} → r ≡ any (in_the_way t.processes scope c.user) t.holds → r ≡ any (λ h. test h && foreign t c.process h) t.holds
-    any_way q = q ∙ any_alike (in_the_way t.processes scope c.user) (λ h. test h && foreign t c.process h) way_is t.holds
-
-  module _ (g : Goal) {scope : Scope} {r : Bool} (q : r ≡ any (in_the_way t.processes scope c.user) t.holds) where
-    pub end_held_is : Scoped (λ h. is_end h && on g.end h) scope → r ≡ end_held t c.process g
-    unfolding end_held
-    end_held_is s = any_way s q
-
-    pub entry_held_is : Scoped (on g.end) scope → r ≡ entry_held t c.process g
-    unfolding entry_held
-    entry_held_is s = any_way s q
-
-  pub inside_held_is : (d : ℕ) {r : Bool} → r ≡ any (in_the_way t.processes (Inside d) c.user) t.holds → r ≡ inside_held t c.process d
+  pub inside_held_is : (d : ℕ) {r : Bool} → r ≡ any (λ h. inside d h && of_another t.processes c.user h) t.holds → r ≡ inside_held t c.process d
   unfolding inside_held
-  inside_held_is d q = any_way (scoped_inside d) q
-
-  -- WHAT ROOT DROPS
+  inside_held_is d q = q ∙ any_alike _ (λ h. inside d h && foreign t c.process h) (λ h. ap (λ b. inside d h && b) (another_is h t c known)) t.holds
 
   pub root_is : {b : Bool} → b ≡ eqb c.user 0 → b ≡ root t c.process
   unfolding root
   root_is e = e ∙ ap (λ u. eqb u 0) known.user
 
-  module _ (g : Goal) {b : Bool} (e : b ≡ eqb c.user 0) where
-    module _ (z : b ≡ true) where
-      is_root : true ≡ root t c.process
-      is_root = sym z ∙ root_is e
+  module _ (g : Goal) where
+    module _ (q : Place) (e : g.end ≡ some (place_at q)) where
+      pub end_held_is : {r : Bool} → r ≡ any (λ h. inside q.directory h && ends_on t.processes q c.user h) t.holds → r ≡ end_held t c.process g
+      unfolding end_held
+      end_held_is s =
+          s ∙ any_alike _ (λ h. is_end h && on (some (place_at q)) h && foreign t c.process h) (λ h. ended_inside q h t c known) t.holds
+          ∙ ap (λ o. any (λ h. is_end h && on o h && foreign t c.process h) t.holds) (sym e)
 
-      pub preempts : {scope : Scope} → Scoped (λ h. is_end h && on g.end h) scope → (h : Hold)
-          → in_the_way t.processes scope c.user h ≡ preempted t c.process g h
-      unfolding preempted
-      preempts s h = way_is s h ∙ ap (λ x. x && is_end h && on g.end h && foreign t c.process h) is_root
+      pub entry_held_is : {r : Bool} → r ≡ any (λ h. inside q.directory h && holds_on t.processes q c.user h) t.holds → r ≡ entry_held t c.process g
+      unfolding entry_held
+      entry_held_is s =
+          s ∙ any_alike _ (λ h. on (some (place_at q)) h && foreign t c.process h) (λ h. held_inside q h t c known) t.holds
+          ∙ ap (λ o. any (λ h. on o h && foreign t c.process h) t.holds) (sym e)
 
-      pub overrules : {scope : Scope} → Scoped (on g.end) scope → (h : Hold) → in_the_way t.processes scope c.user h ≡ overruled t c.process g h
-      unfolding overruled
-      overrules s h = way_is s h ∙ ap (λ x. x && on g.end h && foreign t c.process h) is_root
+      -- WHAT ROOT DROPS
 
-    module _ (z : b ≡ false) where
+      module _ {b : Bool} (r : b ≡ eqb c.user 0) (z : b ≡ true) where
+        is_root : true ≡ root t c.process
+        is_root = sym z ∙ root_is r
+
+        pub preempts : (h : Hold) → ends_on t.processes q c.user h ≡ preempted t c.process g h
+        unfolding preempted
+        preempts h = ended_is q h t c known ∙ ap (λ o. is_end h && on o h && foreign t c.process h) (sym e)
+            ∙ ap (λ x. x && is_end h && on g.end h && foreign t c.process h) is_root
+
+        pub overrules : (h : Hold) → holds_on t.processes q c.user h ≡ overruled t c.process g h
+        unfolding overruled
+        overrules h = held_is q h t c known ∙ ap (λ o. on o h && foreign t c.process h) (sym e) ∙ ap (λ x. x && on g.end h && foreign t c.process h) is_root
+
+    module _ {b : Bool} (r : b ≡ eqb c.user 0) (z : b ≡ false) where
       not_root : root t c.process ≡ false
-      not_root = sym (root_is e) ∙ z
+      not_root = sym (root_is r) ∙ z
 
       pub none_preempted : (h : Hold) → preempted t c.process g h ≡ false
       unfolding preempted

@@ -1,1 +1,1 @@
-pub mod Scopes
+pub mod Asks

@@ -1,25 +1,25 @@
--- `holds::drop_preempted` meets its contract: root's test is the scope's, and for others nothing is dropped. Assumes nothing.
+-- `holds::drop_preempted` meets its contract: for root each row is asked for its place, role and user, and for others nothing is dropped. Assumes nothing.
 use Rattle.model.specs.Words.{unpack}
 use Rattle.model.specs.Holds.{preempted}
 use Rattle.goals.specs.Goals.{goal_of}
-use Rattle.holds.proofs.Ways.{drops_alike, drops_nothing, none_preempted, preempts}
+use Rattle.holds.specs.Asks.{ends_on}
+use Rattle.holds.proofs.Ways.{drops_alike, drops_nothing, none_preempted, none_preempted_there, preempts}
+use borrow.Author.Rules.{rules}
 use Rattle.holds.proofs.drop_preempted.Goals as goal
 
-pub end_scope-requires : goal.end_scope-requires
-end_scope-requires c = c.requires.1.1
+pub returns-in-Some : goal.returns-in-Some
+returns-in-Some c =
+    let tables = unpack c.args.words.now in let caller = c.args.caller in let walked = goal_of c.args.walk in let place = c.in-Some.place in
+    drops_alike tables _ (preempted tables caller.process walked) (preempts tables caller c.requires.1.0 walked place c.in-Some.ensures.1 c.is_root.ensures c.if-is_root.true)
+    (c.drop_where.ensures (λ processes. ends_on processes place caller.user) (record { told = λ w row r stands below answer. search rules }))
 
-pub drop_in_the_way-requires : goal.drop_in_the_way-requires
-drop_in_the_way-requires c = (c.requires.0, c.end_scope.ensures.named)
-
-pub returns-then-is_root : goal.returns-then-is_root
-returns-then-is_root c =
-    let words = c.args.words.now in let caller = c.args.caller in let walk = c.args.walk in
-    let test = preempted (unpack words) caller.process (goal_of walk) in
-    drops_alike (unpack words) _ test (preempts (unpack words) caller c.requires.1.0 (goal_of walk) c.is_root.ensures c.if-is_root.true c.end_scope.ensures)
-    c.drop_in_the_way.ensures
+pub returns-in_default : goal.returns-in_default
+returns-in_default c =
+    let tables = unpack c.args.words.now in let process = c.args.caller.process in let walked = goal_of c.args.walk in
+    drops_nothing c.args.words.now (preempted tables process walked) c.requires.0 (none_preempted_there tables process walked c.in_default.ensures)
 
 pub returns-else-is_root : goal.returns-else-is_root
 returns-else-is_root c =
-    let words = c.args.words.now in let caller = c.args.caller in let walk = c.args.walk in
-    let test = preempted (unpack words) caller.process (goal_of walk) in
-    drops_nothing words test c.requires.0 (none_preempted (unpack words) caller c.requires.1.0 (goal_of walk) c.is_root.ensures c.if-is_root.false)
+    let tables = unpack c.args.words.now in let caller = c.args.caller in let walked = goal_of c.args.walk in
+    drops_nothing c.args.words.now (preempted tables caller.process walked) c.requires.0
+    (none_preempted tables caller c.requires.1.0 walked c.is_root.ensures c.if-is_root.false)

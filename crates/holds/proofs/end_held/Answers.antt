@@ -1,13 +1,16 @@
--- `holds::end_held` meets its contract: the end scope and the caller's user are the model's test. Assumes nothing.
+-- `holds::end_held` meets its contract: what is inside the end's directory is asked for its place, role and user. Assumes nothing.
 use Rattle.model.specs.Words.{unpack}
 use Rattle.goals.specs.Goals.{goal_of}
-use Rattle.holds.proofs.Ways.{end_held_is}
+use Rattle.holds.specs.Asks.{ends_on}
+use Rattle.holds.proofs.Ways.{end_held_is, none_end_held}
+use borrow.Author.Rules.{rules}
 use Rattle.holds.proofs.end_held.Goals as goal
 
-pub others_hold-requires : goal.others_hold-requires
-others_hold-requires c = (c.requires.0, c.end_scope.ensures.named)
+pub returns-in-Some : goal.returns-in-Some
+returns-in-Some c =
+    let tables = unpack c.args.words.now in let caller = c.args.caller in let place = c.in-Some.place in
+    end_held_is tables caller c.requires.1.0 (goal_of c.args.walk) place c.in-Some.ensures.1
+    (c.others_hold.ensures (λ processes. ends_on processes place caller.user) (record { told = λ w row r stands below answer. search rules }))
 
-pub returns : goal.returns
-returns c =
-    end_held_is (unpack c.args.words.now) c.args.caller c.requires.1.0 (goal_of c.args.walk) c.others_hold.ensures
-    c.end_scope.ensures
+pub returns-in-None : goal.returns-in-None
+returns-in-None c = none_end_held (unpack c.args.words.now) c.args.caller.process (goal_of c.args.walk) c.in-None.ensures

@@ -1,17 +1,19 @@
--- `holds::ends_at` meets its contract: the role is compared, then the place. Assumes nothing.
+-- `holds::ends_at` meets its contract: it is an end hold, and another user's on the place. Assumes nothing.
+use mathlib.Core.Path.{sym, ◌∙◌}
+use borrow.Author.Tests.{eq-eqb, ne_eqb}
+use Rattle.laws.proofs.Bools.{passed, stopped}
+use Rattle.model.specs.Sound.{is_end}
 use Rattle.rows.specs.Stands.{hold_row}
-use Rattle.goals.specs.Goals.{PlaceNamed, place_at}
-use Rattle.holds.proofs.Tests.{end_there, not_an_end}
-use Rattle.holds.specs.Scopes.{ScopeNamed}
+use Rattle.holds.specs.Asks.{ends_on}
 use Rattle.holds.proofs.ends_at.Goals as goal
 
-pub returns-then-hold_role-ne-END : goal.returns-then-hold_role-ne-END
-returns-then-hold_role-ne-END c = not_an_end (hold_row c.args.words.now c.args.row) c.args.place c.hold_role.ensures c.if-hold_role-ne-END.true
+pub returns-then-hold_role-eq-END : goal.returns-then-hold_role-eq-END
+unfolding ends_on is_end
+returns-then-hold_role-eq-END c =
+    passed (eq-eqb (hold_row c.args.words.now c.args.row).role 1 (sym c.hold_role.ensures ∙ c.if-hold_role-eq-END.true)) c.is_held.ensures
 
-pub hold_is_on-requires : goal.hold_is_on-requires
-unfolding ScopeNamed PlaceNamed
-hold_is_on-requires c = (c.requires.0, (c.requires.1.0, c.requires.1.1))
-
-pub returns : goal.returns
-unfolding place_at
-returns c = end_there (hold_row c.args.words.now c.args.row) c.args.place c.hold_role.ensures c.if-hold_role-ne-END.false c.hold_is_on.ensures
+pub returns-else-hold_role-eq-END : goal.returns-else-hold_role-eq-END
+unfolding ends_on is_end
+returns-else-hold_role-eq-END c =
+    ne_eqb c.hold_role.result 1 c.if-hold_role-eq-END.false
+    ∙ stopped _ (ne_eqb (hold_row c.args.words.now c.args.row).role 1 (λ p. c.if-hold_role-eq-END.false (c.hold_role.ensures ∙ p)))

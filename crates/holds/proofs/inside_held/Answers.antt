@@ -1,12 +1,12 @@
--- `holds::inside_held` meets its contract: the scope inside the directory and the caller's user are the model's test. Assumes nothing.
+-- `holds::inside_held` meets its contract: what stands inside is asked for its user. Assumes nothing.
 use Rattle.model.specs.Words.{unpack}
+use Rattle.holds.specs.Asks.{of_another}
 use Rattle.holds.proofs.Ways.{inside_held_is}
-use Rattle.holds.specs.Scopes.{ScopeNamed}
+use borrow.Author.Rules.{rules}
 use Rattle.holds.proofs.inside_held.Goals as goal
 
-pub others_hold-requires : goal.others_hold-requires
-unfolding ScopeNamed
-others_hold-requires c = (c.requires.0, tt)
-
 pub returns : goal.returns
-returns c = inside_held_is (unpack c.args.words.now) c.args.caller c.requires.1 c.args.directory c.others_hold.ensures
+returns c =
+    let tables = unpack c.args.words.now in let caller = c.args.caller in
+    inside_held_is tables caller c.requires.1 c.args.directory
+    (c.others_hold.ensures (λ processes. of_another processes caller.user) (record { told = λ w row r stands below answer. search rules }))

@@ -1,89 +1,64 @@
--- `holds::others_hold` meets its contract: what is in the way from some row on is what is in the way at all. Assumes nothing.
-use mathlib.Core.Path.{◌≡◌, refl, subst}
-use Prim.Native.Nat.{◌<◌, ℕ, ◌+◌, ◌*◌}
+-- `holds::others_hold` meets its contract: what passes from some row on is what passes at all. Assumes nothing.
+use mathlib.Core.Path.{◌≡◌, subst}
+use mathlib.Core.Bool.{◌&&◌}
+use Prim.Native.Nat.{ℕ, ◌<◌, ◌+◌, ◌*◌}
 use native.Mathlib.Omega.{arith}
-use borrow.Author.Rules.{rules}
-use lib.ListN.{length, drop}
-use Rattle.model.specs.Lists.{any}
-use Rattle.model.specs.Tables.{no_hold}
-use Rattle.model.specs.Words.{unpack}
+use lib.ListN.{drop}
 use Rattle.laws.proofs.Loops.{any_nowhere}
-use Rattle.rows.specs.Stands.{hold_row}
+use Rattle.model.specs.Holds.{inside}
+use Rattle.model.specs.Lists.{any}
+use Rattle.model.specs.Tables.{hold_rows, no_hold}
+use Rattle.model.specs.Words.{unpack}
 use Rattle.rows.proofs.Parts.{holds_full}
-use Rattle.holds.specs.Scopes.{in_the_way}
-use Rattle.holds.proofs.Tests.{any_met, any_missed, way_elsewhere}
+use Rattle.holds.proofs.Tests.{row_elsewhere, row_met, row_missed}
 use Rattle.holds.proofs.others_hold.Goals as goal
-use Rattle.holds.proofs.others_hold.Goals.{then-may_be_covered+else-is_in_the_way, else-may_be_covered, then-may_be_covered-2+else-is_in_the_way-2, else-may_be_covered-2}
+use Rattle.holds.proofs.others_hold.Goals.{else-hold_directory-directory-via-then-hold_directory-directory+else-test, else-hold_directory-directory-via-else-hold_directory-directory}
+use Rattle.holds.proofs.others_hold.Goals.{else-hold_directory-directory-2-via-then-hold_directory-directory-2+else-test-2, else-hold_directory-directory-2-via-else-hold_directory-directory-2}
 
-pub loop-pair-init : goal.loop-pair-init
-loop-pair-init c = (search rules, refl)
-
-pub may_be_covered-requires : goal.may_be_covered-requires
-may_be_covered-requires c = (c.requires.0, omega arith)
-
-pub is_in_the_way-requires : goal.is_in_the_way-requires
-is_in_the_way-requires c = let pre = c.requires in (pre.0, (omega arith, pre.1))
-
--- the first of two rows is in the way
-pub returns-then-is_in_the_way : goal.returns-then-is_in_the_way
-returns-then-is_in_the_way c =
+pub returns-then-test : goal.returns-then-test
+returns-then-test g c asks tells =
     let words = c.args.words.now in
-    any_met (in_the_way (unpack c.args.words.now).processes c.args.scope c.args.user) no_hold (unpack words).holds (c.loop-pair.pair * 2)
-    (omega (arith, holds_full words)) c.is_in_the_way.ensures c.if-is_in_the_way.true
-    c.loop-pair.invariant.1
+    row_met words c.args.directory (asks (unpack words).processes) (c.loop-pair.pair * 2) (omega arith) c.hold_directory.ensures (c.loop-pair.invariant asks tells)
+    (tells.told _ _ _ c.requires.words_stand (omega arith) c.test.ensures) c.if-hold_directory-directory.true c.if-test.true
 
-pub may_be_covered-requires-in-loop-pair : goal.may_be_covered-requires-in-loop-pair
-may_be_covered-requires-in-loop-pair c = (c.requires.0, omega arith)
-
-pub is_in_the_way-requires-then-may_be_covered-2 : goal.is_in_the_way-requires-then-may_be_covered-2
-is_in_the_way-requires-then-may_be_covered-2 c = let pre = c.requires in (pre.0, (omega arith, pre.1))
-
--- the second is
-pub returns-then-is_in_the_way-2 : goal.returns-then-is_in_the_way-2
-returns-then-is_in_the_way-2 c =
-    let words = c.args.words.now in
-    let way = in_the_way (unpack words).processes c.args.scope c.args.user in
-    let i = c.loop-pair.pair * 2 in
-    let inside : i < length (unpack words).holds = omega (arith, holds_full words) in
-    let elsewhere = way_elsewhere (hold_row words i) (unpack words).processes c.args.scope c.args.user c.directory_of-directory.ensures in
-    let rest : any way (drop (i + 1) (unpack words).holds) ≡ any way (unpack words).holds =
-    elim c.if-may_be_covered.branch [
-      | then-may_be_covered+else-is_in_the_way w ↦
-          any_missed way no_hold (unpack words).holds i inside w.is_in_the_way.ensures w.if-is_in_the_way.false c.loop-pair.invariant.1
-      | else-may_be_covered w ↦
-          any_missed way no_hold (unpack words).holds i inside (elsewhere c.may_be_covered.ensures w.if-may_be_covered.false) refl c.loop-pair.invariant.1
+pub returns-then-test-2 : goal.returns-then-test-2
+returns-then-test-2 g c asks tells =
+    let words = c.args.words.now in let d = c.args.directory in let ask = asks (unpack words).processes in let i = c.loop-pair.pair * 2 in
+    let so_far = c.loop-pair.invariant asks tells in let below : i < hold_rows = omega arith in
+    let rest : any (λ h. inside d h && ask h) (drop (i + 1) (unpack words).holds) ≡ any (λ h. inside d h && ask h) (unpack words).holds =
+    elim c.else-hold_directory-directory.branch [
+      | else-hold_directory-directory-via-then-hold_directory-directory+else-test w ↦
+          row_missed words d ask i below c.hold_directory.ensures so_far (tells.told _ _ _ c.requires.words_stand below w.test.ensures) w.if-test.false
+      | else-hold_directory-directory-via-else-hold_directory-directory w ↦ row_elsewhere words d ask i below c.hold_directory.ensures so_far w.if-hold_directory-directory.false
     ] in
-    any_met way no_hold (unpack words).holds (i + 1) (omega (arith, holds_full words)) c.is_in_the_way-then-may_be_covered-2.ensures
-    c.if-is_in_the_way-2.true rest
+    let beside : i + 1 < hold_rows = omega arith in
+    row_met words d ask (i + 1) beside c.hold_directory-in-loop-pair.ensures rest
+    (tells.told _ _ _ c.requires.words_stand beside c.test-then-hold_directory-directory-2.ensures) c.if-hold_directory-directory-2.true c.if-test-2.true
 
 pub loop-pair-preserved : goal.loop-pair-preserved
-loop-pair-preserved c =
-    let words = c.args.words.now in
-    let way = in_the_way (unpack words).processes c.args.scope c.args.user in
-    let i = c.loop-pair.pair * 2 in
-    let inside : i < length (unpack words).holds = omega (arith, holds_full words) in
-    let elsewhere = way_elsewhere (hold_row words i) (unpack words).processes c.args.scope c.args.user c.directory_of-directory.ensures in
-    let rest : any way (drop (i + 1) (unpack words).holds) ≡ any way (unpack words).holds =
-    elim c.if-may_be_covered.branch [
-      | then-may_be_covered+else-is_in_the_way w ↦
-          any_missed way no_hold (unpack words).holds i inside w.is_in_the_way.ensures w.if-is_in_the_way.false c.loop-pair.invariant.1
-      | else-may_be_covered w ↦
-          any_missed way no_hold (unpack words).holds i inside (elsewhere c.may_be_covered.ensures w.if-may_be_covered.false) refl c.loop-pair.invariant.1
+loop-pair-preserved g c asks tells =
+    let words = c.args.words.now in let d = c.args.directory in let ask = asks (unpack words).processes in let i = c.loop-pair.pair * 2 in
+    let so_far = c.loop-pair.invariant asks tells in let below : i < hold_rows = omega arith in
+    let rest : any (λ h. inside d h && ask h) (drop (i + 1) (unpack words).holds) ≡ any (λ h. inside d h && ask h) (unpack words).holds =
+    elim c.else-hold_directory-directory.branch [
+      | else-hold_directory-directory-via-then-hold_directory-directory+else-test w ↦
+          row_missed words d ask i below c.hold_directory.ensures so_far (tells.told _ _ _ c.requires.words_stand below w.test.ensures) w.if-test.false
+      | else-hold_directory-directory-via-else-hold_directory-directory w ↦ row_elsewhere words d ask i below c.hold_directory.ensures so_far w.if-hold_directory-directory.false
     ] in
-    let beside : i + 1 < length (unpack words).holds = omega (arith, holds_full words) in
-    let otherwise = way_elsewhere (hold_row words (i + 1)) (unpack words).processes c.args.scope c.args.user c.directory_of-directory.ensures in
-    let behind : any way (drop (i + 1 + 1) (unpack words).holds) ≡ any way (unpack words).holds =
-    elim c.if-may_be_covered-2.branch [
-      | then-may_be_covered-2+else-is_in_the_way-2 w ↦
-          any_missed way no_hold (unpack words).holds (i + 1) beside w.is_in_the_way-then-may_be_covered-2.ensures w.if-is_in_the_way-2.false rest
-      | else-may_be_covered-2 w ↦
-          any_missed way no_hold (unpack words).holds (i + 1) beside (otherwise c.may_be_covered-in-loop-pair.ensures w.if-may_be_covered-2.false) refl rest
+    let beside : i + 1 < hold_rows = omega arith in
+    let behind : any (λ h. inside d h && ask h) (drop (i + 1 + 1) (unpack words).holds) ≡ any (λ h. inside d h && ask h) (unpack words).holds =
+    elim c.else-hold_directory-directory-2.branch [
+      | else-hold_directory-directory-2-via-then-hold_directory-directory-2+else-test-2 w ↦
+          row_missed words d ask (i + 1) beside c.hold_directory-in-loop-pair.ensures rest
+          (tells.told _ _ _ c.requires.words_stand beside w.test-then-hold_directory-directory-2.ensures) w.if-test-2.false
+      | else-hold_directory-directory-2-via-else-hold_directory-directory-2 w ↦
+          row_elsewhere words d ask (i + 1) beside c.hold_directory-in-loop-pair.ensures rest w.if-hold_directory-directory-2.false
     ] in
     let both : i + 1 + 1 ≡ (c.loop-pair.pair + 1) * 2 = omega arith in
-    (omega arith, subst (λ (n : ℕ). any way (drop n (unpack words).holds) ≡ any way (unpack words).holds) both behind)
+    subst (λ (n : ℕ). any (λ h. inside d h && ask h) (drop n (unpack words).holds) ≡ any (λ h. inside d h && ask h) (unpack words).holds) both behind
 
 pub returns : goal.returns
-returns c =
+returns g c asks tells =
     let words = c.args.words.now in
-    any_nowhere (in_the_way (unpack c.args.words.now).processes c.args.scope c.args.user) no_hold (unpack words).holds (c.loop-pair.pair * 2)
-    (omega (arith, holds_full words)) c.loop-pair.invariant.1
+    any_nowhere (λ h. inside c.args.directory h && asks (unpack words).processes h) no_hold (unpack words).holds (c.loop-pair.pair * 2)
+    (omega (arith, holds_full words)) (c.loop-pair.invariant asks tells)
