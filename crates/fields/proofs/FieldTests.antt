@@ -80,13 +80,14 @@ module _ (w : Wanted) (s : List ℕ) where
   unfolding meant
   filled_at_blank e = rw e (blank_filled s)
 
-  pub filled_at_path : w ≡ Path → not_blank (meant w) s ≡ false
+  pub filled_elsewhere : (w ≡ Blank → ⊥) → not_blank (meant w) s ≡ false
   unfolding meant not_blank
-  filled_at_path e = rw e
-
-  pub filled_at_target : w ≡ Target → not_blank (meant w) s ≡ false
-  unfolding meant not_blank
-  filled_at_target e = rw e
+  filled_elsewhere f = go w f
+    where
+      go : (w : Wanted) → (w ≡ Blank → ⊥) → not_blank (meant w) s ≡ false
+      go Blank g = absurd (g refl)
+      go Path g = refl
+      go Target g = refl
 
   pub valid_at_blank : w ≡ Blank → not_valid (meant w) s ≡ false
   unfolding meant not_valid

@@ -2,6 +2,7 @@
 use mathlib.Core.Path.{◌≡◌, refl, sym, ap, ◌∙◌}
 use mathlib.Core.Bool.{Bool, true, false}
 use mathlib.Core.List.{map}
+use mathlib.Core.Logic.{◌⊎◌, inl, inr}
 use Prim.Native.Nat.{ℕ, zero, suc, ◌-◌, ◌≤◌, ◌<◌}
 use native.Mathlib.Omega.{arith}
 use native.Mathlib.Numerals.{sub-one}
@@ -55,9 +56,36 @@ stays Use = true
 stays Creation = false
 stays Removal = false
 
+pub entries_change : (c : Class) → (c ≡ Creation) ⊎ (c ≡ Removal) → stays c ≡ false
+unfolding stays
+entries_change c (inl e) = rw e
+entries_change c (inr e) = rw e
+
+pub entries_stay : (c : Class) → (c ≡ Creation → ⊥) → (c ≡ Removal → ⊥) → stays c ≡ true
+unfolding stays
+entries_stay Unknown f g = refl
+entries_stay Process f g = refl
+entries_stay Check f g = refl
+entries_stay Use f g = refl
+entries_stay Creation f g = absurd (f refl)
+entries_stay Removal f g = absurd (g refl)
+
 class_stays : (n : ℕ) → stays (coded_class (row_of n).there (row_of n).class) ≡ keeps_entries (row_of n).effect
 unfolding calls row_of keeps_entries coded_class stays
 class_stays = by_the_table (λ r. stays (coded_class r.there r.class)) (λ r. keeps_entries r.effect) refl refl
+
+pub class_unknown : (c : Class) → c ≡ Unknown → is_call c ≡ false
+unfolding is_call
+class_unknown c e = rw e
+
+pub class_known : (c : Class) → (c ≡ Unknown → ⊥) → is_call c ≡ true
+unfolding is_call
+class_known Unknown f = absurd (f refl)
+class_known Process f = refl
+class_known Check f = refl
+class_known Use f = refl
+class_known Creation f = refl
+class_known Removal f = refl
 
 class_is_call : (there : Bool) (c : model.Class) → is_call (coded_class there c) ≡ there
 unfolding is_call coded_class

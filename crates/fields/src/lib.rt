@@ -37,57 +37,32 @@ pub fn fault(numbers: Numbers, path1: &[u8], path2: &[u8]) -> u8
 fn fields_broken(row: Row, numbers: Numbers, path1: &[u8], path2: &[u8]) -> bool
     ensures { result ≡ (numbers_broken numbers row || not_blank (meant row.2) path1.now || not_blank (meant row.3) path2.now) }
 {
-    let path1_wanted = row.2;
-    let path2_wanted = row.3;
-    if numbers_broken(numbers, row) {
-        return true;
-    }
-    if filled_blank(path1_wanted, path1) {
-        return true;
-    }
-    filled_blank(path2_wanted, path2)
+    numbers_broken(numbers, row) || filled_blank(row.2, path1) || filled_blank(row.3, path2)
 }
 
 fn paths_broken(row: Row, path1: &[u8], path2: &[u8]) -> bool
     ensures { result ≡ (not_valid (meant row.2) path1.now || not_valid (meant row.3) path2.now) }
 {
-    let path1_wanted = row.2;
-    let path2_wanted = row.3;
-    if not_valid(path1_wanted, path1) {
-        return true;
-    }
-    not_valid(path2_wanted, path2)
+    not_valid(row.2, path1) || not_valid(row.3, path2)
 }
 
 // What is wrong in the numbers alone, by the call's row.
 fn numbers_broken(numbers: Numbers, row: Row) -> bool
     ensures { result ≡ numbers_broken numbers row }
 {
-    let class = row.0;
-    let argument_wanted = row.1;
-    if !table::is_call(class) {
-        return true;
-    }
-    if numbers.process == 0 {
-        return true;
-    }
-    if numbers.zeros != 0 {
+    if !table::is_call(row.0) || numbers.process == 0 || numbers.zeros != 0 {
         return true;
     }
     if numbers.argument == 0 {
         return numbers.call == table::FORK;
     }
-    !argument_wanted
+    !row.1
 }
 
 fn filled_blank(wanted: Wanted, path: &[u8]) -> bool
     ensures { result ≡ not_blank (meant wanted) path.now }
 {
-    match wanted {
-        Wanted::Blank => path.len() != 0,
-        Wanted::Path => false,
-        Wanted::Target => false,
-    }
+    matches!(wanted, Wanted::Blank) && !path.is_empty()
 }
 
 fn not_valid(wanted: Wanted, path: &[u8]) -> bool

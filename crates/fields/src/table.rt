@@ -46,16 +46,17 @@ const ROWS: [Row; CALLS] = [
     Row(Class::Removal, false, Wanted::Path, Wanted::Blank), // 13 rmdir
 ];
 
+// The row of a number that is no call's.
+const NO_ROW: Row = Row(Class::Unknown, false, Wanted::Blank, Wanted::Blank);
+
 // A call's row. A number that is no call's has blanks alone.
 pub fn row_of(call: u32) -> Row
     ensures { result ≡ coded_row (row_of call) }
 {
+    // stays: no plainer, Rust has no `From<u32>` for usize.
     let place = call as usize;
-    if place < 1 {
-        return Row(Class::Unknown, false, Wanted::Blank, Wanted::Blank);
-    }
-    if CALLS < place {
-        return Row(Class::Unknown, false, Wanted::Blank, Wanted::Blank);
+    if place < 1 || CALLS < place {
+        return NO_ROW;
     }
     ROWS[place - 1]
 }
@@ -63,14 +64,7 @@ pub fn row_of(call: u32) -> Row
 pub(crate) fn is_call(class: Class) -> bool
     ensures { result ≡ is_call class }
 {
-    match class {
-        Class::Unknown => false,
-        Class::Process => true,
-        Class::Check => true,
-        Class::Use => true,
-        Class::Creation => true,
-        Class::Removal => true,
-    }
+    !matches!(class, Class::Unknown)
 }
 
 // Whether a call leaves the entries as they were, accepted or not: creation and removal do not.
@@ -78,13 +72,5 @@ pub fn keeps_entries(call: u32) -> bool
     ensures { result ≡ keeps_entries (row_of call).effect }
 {
     let row = row_of(call);
-    let class = row.0;
-    match class {
-        Class::Unknown => true,
-        Class::Process => true,
-        Class::Check => true,
-        Class::Use => true,
-        Class::Creation => false,
-        Class::Removal => false,
-    }
+    !matches!(row.0, Class::Creation | Class::Removal)
 }

@@ -1,28 +1,13 @@
 -- `fields::table::is_call` meets its contract. Assumes nothing.
-use mathlib.Core.Path.{sym, ap}
-use Rattle.fields.specs.Rows.{is_call}
+use mathlib.Core.Path.{sym, ap, ◌∙◌}
+use mathlib.Core.Bool.{not}
+use Rattle.fields.proofs.TableRows.{class_known, class_unknown}
 use Rattle.fields.proofs.table.is_call.Goals as goal
+use Rattle.fields.proofs.table.is_call.Goals.{in-Unknown, in_default}
 
-pub returns-in-Unknown : goal.returns-in-Unknown
-unfolding is_call
-returns-in-Unknown c = sym (ap is_call c.in-Unknown.is)
-
-pub returns-in-Process : goal.returns-in-Process
-unfolding is_call
-returns-in-Process c = sym (ap is_call c.in-Process.is)
-
-pub returns-in-Check : goal.returns-in-Check
-unfolding is_call
-returns-in-Check c = sym (ap is_call c.in-Check.is)
-
-pub returns-in-Use : goal.returns-in-Use
-unfolding is_call
-returns-in-Use c = sym (ap is_call c.in-Use.is)
-
-pub returns-in-Creation : goal.returns-in-Creation
-unfolding is_call
-returns-in-Creation c = sym (ap is_call c.in-Creation.is)
-
-pub returns-in-Removal : goal.returns-in-Removal
-unfolding is_call
-returns-in-Removal c = sym (ap is_call c.in-Removal.is)
+pub returns : goal.returns
+returns c =
+    elim c.match-matches.branch [
+      | in-Unknown w ↦ ap not w.matches-is ∙ sym (class_unknown _ w.in-Unknown.is)
+      | in_default w ↦ ap not w.matches-is ∙ sym (class_known _ w.in_default.not-Unknown)
+    ]

@@ -1,28 +1,14 @@
 -- `fields::table::keeps_entries` meets its contract: by the class. Assumes nothing.
 use mathlib.Core.Path.{sym, ap, ◌∙◌}
-use Rattle.fields.proofs.TableRows.{stays, effect_cell}
+use mathlib.Core.Bool.{not}
+use Rattle.fields.proofs.TableRows.{entries_change, entries_stay, effect_cell}
 use Rattle.fields.proofs.table.keeps_entries.Goals as goal
+use Rattle.fields.proofs.table.keeps_entries.Goals.{in-Creation, in_default}
 
-pub returns-in-Unknown : goal.returns-in-Unknown
-unfolding stays
-returns-in-Unknown c = sym (ap stays c.in-Unknown.is) ∙ effect_cell _ _ c.row_of-row.ensures
-
-pub returns-in-Process : goal.returns-in-Process
-unfolding stays
-returns-in-Process c = sym (ap stays c.in-Process.is) ∙ effect_cell _ _ c.row_of-row.ensures
-
-pub returns-in-Check : goal.returns-in-Check
-unfolding stays
-returns-in-Check c = sym (ap stays c.in-Check.is) ∙ effect_cell _ _ c.row_of-row.ensures
-
-pub returns-in-Use : goal.returns-in-Use
-unfolding stays
-returns-in-Use c = sym (ap stays c.in-Use.is) ∙ effect_cell _ _ c.row_of-row.ensures
-
-pub returns-in-Creation : goal.returns-in-Creation
-unfolding stays
-returns-in-Creation c = sym (ap stays c.in-Creation.is) ∙ effect_cell _ _ c.row_of-row.ensures
-
-pub returns-in-Removal : goal.returns-in-Removal
-unfolding stays
-returns-in-Removal c = sym (ap stays c.in-Removal.is) ∙ effect_cell _ _ c.row_of-row.ensures
+pub returns : goal.returns
+returns c =
+    let cell = effect_cell _ _ c.row_of-row.ensures in
+    elim c.match-matches.branch [
+      | in-Creation w ↦ ap not w.matches-is ∙ sym (entries_change _ w.in-Creation.is) ∙ cell
+      | in_default w ↦ ap not w.matches-is ∙ sym (entries_stay _ w.in_default.not-Creation w.in_default.not-Removal) ∙ cell
+    ]
