@@ -3,12 +3,16 @@ use mathlib.Core.Path.{◌≡◌, refl, sym, ap, ap₂, ◌∙◌}
 use mathlib.Core.Bool.{Bool, true, false, ◌&&◌, ◌||◌}
 use mathlib.Core.List.{List, [], ◌∷◌, ◌++◌}
 use Prim.Native.Nat.{ℕ, zero, suc, ◌+◌, ◌*◌, ◌/◌, ◌%◌, ◌≤◌, ◌<◌}
+use native.Mathlib.Decide.{ℕ_discrete}
 use native.Mathlib.Omega.{arith}
 use borrow.Author.Tests.{eqb-true, eq-eqb, ne_eqb, leb-true, le-leb, lt-leb}
+use mir.Syntax.{w32}
+use mir.Val.{Fits}
 use lib.Bits.{bit_or, or_add_and, and_le_l, and_le_r}
 use lib.Dec.{eqb, leb}
-use lib.ListN.{length, get_or, take, drop, replicate, length-take, length-drop, drop_of_length-le}
+use lib.ListN.{length, get_or, take, drop, replicate, length-take, length-drop}
 use lib.Seq.{length-take-le, get_or-take, get_or-drop}
+use Rattle.std.specs.List.{fold}
 use Rattle.model.specs.Lists.{same, empty, all, filled}
 use Rattle.model.specs.Paths.{longest_target, valid_target}
 use Rattle.model.specs.Tables.{Node, no_node, free_node}
@@ -16,7 +20,6 @@ use Rattle.model.specs.Words.{node_words, bits, words, bytes, pack_node, unpack_
 use Rattle.model.specs.Sound.{target_fits}
 use Rattle.laws.proofs.Bools.{and_false, and_left, and_right, both, is_false, and_true, and_joins, stopped}
 use Rattle.laws.proofs.Each.{Each, each_take, each_by_place}
-use Rattle.laws.proofs.Loops.{rest_at}
 use Rattle.laws.proofs.Pieces.{Word, bits_within, bits_join, bits_whole, same_equal, equal_same, bytes_length, bytes_are_bytes, bytes_of_words, words_of_bytes, filled_length, filled_bytes}
 use Rattle.rows.specs.Blocks.{target_words}
 use Rattle.rows.proofs.Blocks.{same_when}
@@ -37,28 +40,15 @@ joined_zero a b =
     let z = eqb-true b 0 (and_right (eqb a 0) (eqb b 0) e) in
     eq-eqb (bit_or a b) 0 (omega arith))
 
--- what is joined so far and what is left are zeros where the whole is
-module _ (w : List ℕ) (at : ℕ) (inside : at + target_words ≤ length w) where
-  abbrev room : List ℕ
-  room = take target_words (drop at w)
+joined_from : (s : List ℕ) (n : ℕ) → eqb (fold bit_or n s) 0 ≡ zeros (n ∷ s)
+unfolding zeros all
+joined_from [] n = sym (and_true (eqb n 0))
+joined_from (x ∷ s) n =
+    joined_from s (bit_or n x) ∙ ap (λ b. b && zeros s) (joined_zero n x) ∙ sym (and_joins (eqb n 0) (eqb x 0) (zeros s))
 
-  room_long : length room ≡ target_words
-  room_long = length-take-le target_words (drop at w) (omega (arith, length-drop at w))
-
-  pub zeros_onward : (joined : ℕ) {k : ℕ} → k < target_words → (eqb joined 0 && zeros (drop k room)) ≡ zeros room
-      → (eqb (bit_or joined (get_or w (at + k) 0)) 0 && zeros (drop (k + 1) room)) ≡ zeros room
-  unfolding zeros all
-  zeros_onward joined {k} h e =
-      let x : get_or room k 0 ≡ get_or w (at + k) 0 = get_or-take target_words (drop at w) k 0 h ∙ get_or-drop at w k 0 in
-      ap (λ b. b && zeros (drop (k + 1) room)) (joined_zero joined (get_or w (at + k) 0))
-      ∙ sym (and_joins (eqb joined 0) (eqb (get_or w (at + k) 0) 0) (zeros (drop (k + 1) room)))
-      ∙ ap (λ y. eqb joined 0 && (eqb y 0 && zeros (drop (k + 1) room))) (sym x)
-      ∙ ap (λ l. eqb joined 0 && zeros l) (sym (rest_at 0 room k (omega (arith, room_long)))) ∙ e
-
-  pub zeros_done : (joined : ℕ) {k : ℕ} → target_words ≤ k → (eqb joined 0 && zeros (drop k room)) ≡ zeros room → eqb joined 0 ≡ zeros room
-  unfolding zeros all
-  zeros_done joined {k} h e =
-      sym (and_true (eqb joined 0)) ∙ ap (λ l. eqb joined 0 && zeros l) (sym (drop_of_length-le room {i = k} (omega (arith, room_long)))) ∙ e
+pub joined_zeros : (s : List ℕ) → eqb (fold bit_or 0 s) 0 ≡ zeros s
+unfolding zeros all
+joined_zeros s = joined_from s 0
 
 filled_zeros : (t : List ℕ) (m k : ℕ) → zeros (drop (length t) (take m (t ++ replicate k 0))) ≡ true
 unfolding zeros all
@@ -110,14 +100,14 @@ pub record NodeRead (ws : List ℕ) (h : ℕ) (ts : List ℕ) (kind : ℕ) : Typ
   pub long : length ts ≡ target_words
   pub top : kind ≡ h / 1073741824
 
-pub node_read : (w : List ℕ) (at : ℕ) → at + node_words ≤ length w → ((i : ℕ) → Word (get_or w i 0)) → {kind : ℕ} → kind ≡ get_or w at 0 / 1073741824
+pub node_read : (w : List ℕ) (at : ℕ) → at + node_words ≤ length w → ((i : ℕ) → Fits w32 (get_or w i 0)) → {kind : ℕ} → kind ≡ get_or w at 0 / 1073741824
     → NodeRead (take node_words (drop at w)) (get_or w at 0) (take target_words (drop (at + 1) w)) kind
 node_read w at inside small top =
     let ts = take target_words (drop (at + 1) w) in
     let long : length ts ≡ target_words = length-take-le target_words (drop (at + 1) w) (omega (arith, length-drop (at + 1) w)) in
     record {
       words = sym (first_word target_words at w (omega arith));
-      small = small at;
+      small = omega (arith, small at);
       others = each_by_place ts 0 (λ i l.
           let e : get_or ts i 0 ≡ get_or w (at + 1 + i) 0 = get_or-take target_words (drop (at + 1) w) i 0 (omega arith) ∙ get_or-drop (at + 1) w i 0 in
           omega (arith, small (at + 1 + i)));
@@ -189,8 +179,8 @@ module _ {ws : List ℕ} {h : ℕ} {ts : List ℕ} {kind : ℕ} (read : NodeRead
     target_length : length target ≤ longest_target
     target_length = simp (length-take) (omega (arith, bytes_long))
 
-    pub low_bits : (h % 8192 ≡ 0 → ⊥) → false ≡ node_shaped ws
-    low_bits n = stopped (target_fits node_in) (is_false (same (h ∷ ts) again) (λ t. n (let e = head_fields t in omega arith))) ∙ used_shape
+    used_low_bits : (h % 8192 ≡ 0 → ⊥) → false ≡ node_shaped ws
+    used_low_bits n = stopped (target_fits node_in) (is_false (same (h ∷ ts) again) (λ t. n (let e = head_fields t in omega arith))) ∙ used_shape
 
     module _ (low : h % 8192 ≡ 0) {size : ℕ} (sized : size ≡ h / 8388608 % 128) where
       size_bits : bits 23 7 h ≡ size
@@ -247,6 +237,9 @@ module _ {ws : List ℕ} {h : ℕ} {ts : List ℕ} {kind : ℕ} (read : NodeRead
             blank_target
             ∙ sym (ap₂ ◌&&◌ (ap (same (h ∷ ts)) w ∙ front) (plain_target ∙ ap empty t) ∙ and_true (same ts no_words)) ∙ used_shape
 
+  pub low_bits : (h % 8192 ≡ 0 → ⊥) → false ≡ node_shaped ws
+  low_bits n = elim (ℕ_discrete kind 0) [ yes z ↦ free_dirty z (λ e. n (omega arith)) | no u ↦ used_low_bits u n ]
+
 -- A LINK'S BYTES
 
 module _ {s t : List ℕ} (e : t ≡ s) (n : ℕ) where
@@ -261,8 +254,3 @@ module _ {s t : List ℕ} (e : t ≡ s) (n : ℕ) where
   pub link_clean : n ≤ longest_target → zeros (drop n t) ≡ true → {r : Bool} → r ≡ valid_target (take n t) → r ≡ link_fits s n
   unfolding link_fits
   link_clean h z f = rw (← e, le-leb n longest_target h, z) f
-
--- the bytes of a target's words
-pub target_bytes : (w : List ℕ) (at : ℕ) → at + target_words ≤ length w → length (bytes (take target_words (drop at w))) ≡ longest_target
-target_bytes w at h =
-    bytes_length (take target_words (drop at w)) ∙ ap (λ n. n * 4) (length-take-le target_words (drop at w) (omega (arith, length-drop at w)))

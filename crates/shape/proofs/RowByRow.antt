@@ -1,41 +1,36 @@
--- A table tested row by row: what the loop over any of the four tables keeps, and how it ends. Assumes nothing.
-use mathlib.Core.Path.{◌≡◌, refl, sym, ap, ◌∙◌}
-use mathlib.Core.Bool.{Bool, true, false, not}
-use mathlib.Core.List.{List, []}
-use Prim.Native.Nat.{ℕ, ◌+◌, ◌*◌, ◌≤◌, ◌<◌}
+-- A table tested row by row: the rows by their numbers, or the words of a table whose rows have one word, are its pieces. Assumes nothing.
+use mathlib.Core.Path.{◌≡◌, refl, sym, ap, ap₂, ◌∙◌}
+use mathlib.Core.Bool.{Bool, ◌&&◌}
+use mathlib.Core.List.{List, [], ◌∷◌}
+use Prim.Native.Nat.{ℕ, zero, suc, ◌+◌, ◌*◌}
 use native.Mathlib.Omega.{arith}
-use lib.ListN.{get_or, take, drop}
+use lib.ListN.{length, take, drop}
 use lib.Seq.{drop-drop}
+use Rattle.std.specs.List.{list_all, range_with_len}
 use Rattle.model.specs.Lists.{all, pieces}
-use Rattle.laws.proofs.Bools.{not_true, not_false}
-use Rattle.laws.proofs.Loops.{all_failed, all_onward, all_passed}
-use Rattle.laws.proofs.Pieces.{pieces_length}
-use Rattle.laws.proofs.RowWords.{piece_at}
 
--- of the n rows of k words from word a on, those before `row` have passed the test
-pub record Passed (test : List ℕ → Bool) (n k a : ℕ) (w : List ℕ) (row : ℕ) : Type 0 where
-  pub inside : row ≤ n
-  pub rest : all test (drop row (pieces n k (drop a w))) ≡ all test (pieces n k (drop a w))
+-- the library's test of a whole list is the model's
+pub all_same : {A : Type 0} (test : A → Bool) (xs : List A) → list_all test xs ≡ all test xs
+unfolding all
+all_same test [] = refl
+all_same test (x ∷ xs) = ap (λ b. test x && b) (all_same test xs)
 
-pub none_passed : (test : List ℕ → Bool) (n k a : ℕ) (w : List ℕ) → Passed test n k a w 0
-none_passed test n k a w = record { inside = omega arith; rest = refl }
+module _ (test : List ℕ → Bool) where
+  -- n rows of k words from word a on
+  module _ (k a : ℕ) (w : List ℕ) (by_row : ℕ → Bool) (same_test : (row : ℕ) → by_row row ≡ test (take k (drop (a + row * k) w))) where
+    rows_from : (n row : ℕ) → list_all by_row (range_with_len row n) ≡ all test (pieces n k (drop (a + row * k) w))
+    unfolding all pieces
+    rows_from zero row = refl
+    rows_from (suc n) row =
+        let next : a + (row + 1) * k ≡ a + row * k + k = omega arith in
+        ap₂ ◌&&◌ (same_test row) (rows_from n (row + 1) ∙ ap (λ l. all test (pieces n k l)) (ap (λ m. drop m w) next ∙ sym (drop-drop k (a + row * k) w)))
 
-module _ {test : List ℕ → Bool} {n k a : ℕ} {w : List ℕ} {row : ℕ} (p : Passed test n k a w row) where
-  module _ (there : row < n) {r : Bool} (e : r ≡ test (take k (drop (a + row * k) w))) where
-    tested : get_or (pieces n k (drop a w)) row [] ≡ take k (drop (a + row * k) w)
-    tested = piece_at k n (drop a w) row [] there ∙ ap (take k) (drop-drop (row * k) a w)
+    pub all_rows : (n : ℕ) → list_all by_row (range_with_len 0 n) ≡ all test (pieces n k (drop a w))
+    all_rows n = let front : a + 0 * k ≡ a = omega arith in rows_from n 0 ∙ ap (λ m. all test (pieces n k (drop m w))) front
 
-    pub row_fails : not r ≡ true → false ≡ all test (pieces n k (drop a w))
-    row_fails f =
-        all_failed test [] (pieces n k (drop a w)) row (omega (arith, pieces_length n k (drop a w))) (ap test tested ∙ sym e ∙ not_true r f) p.rest
-
-    pub row_passes : not r ≡ false → Passed test n k a w (row + 1)
-    row_passes f =
-        let l = pieces_length n k (drop a w) in
-        record {
-          inside = omega arith;
-          rest = all_onward test [] (pieces n k (drop a w)) row (omega arith) (ap test tested ∙ sym e ∙ not_false r f) p.rest;
-        }
-
-  pub all_pass : n ≤ row → true ≡ all test (pieces n k (drop a w))
-  all_pass h = all_passed test [] (pieces n k (drop a w)) row (omega (arith, pieces_length n k (drop a w))) p.rest
+  pub all_words : (n : ℕ) (ws : List ℕ) → length ws ≡ n → list_all (λ x. test (x ∷ [])) ws ≡ all test (pieces n 1 ws)
+  unfolding all pieces
+  all_words zero [] l = refl
+  all_words zero (x ∷ ws) l = absurd (omega arith)
+  all_words (suc n) [] l = absurd (omega arith)
+  all_words (suc n) (x ∷ ws) l = ap (λ b. test (x ∷ []) && b) (all_words n ws (omega arith))

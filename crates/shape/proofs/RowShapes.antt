@@ -5,15 +5,16 @@ use mathlib.Core.Logic.{◌⊎◌, inl, inr}
 use mathlib.Core.List.{List, [], ◌∷◌, ◌++◌}
 use Prim.Native.Nat.{ℕ, suc, ◌+◌, ◌*◌, ◌≤◌, ◌<◌}
 use native.Mathlib.Omega.{arith}
-use native.Mathlib.Nat.{zero-add}
-use borrow.Author.Tests.{eqb-true, eq-eqb, ne_eqb}
-use lib.Dec.{eqb}
+use borrow.Author.Tests.{eqb-true, eq-eqb, ne_eqb, leb-true, leb-false}
+use mir.Syntax.{w32}
+use mir.Val.{Fits}
+use lib.Dec.{eqb, leb}
 use lib.ListN.{length, get_or, take, drop, replicate}
 use Rattle.model.specs.Lists.{same, all}
 use Rattle.model.specs.Paths.{valid_name}
 use Rattle.model.specs.Tables.{Entry, Hold, no_entry, no_hold, no_process, free_entry, free_hold, free_process}
-use Rattle.model.specs.Words.{entry_words, hold_words, process_words, first_process_word, bits, pack_name, pack_entry, unpack_entry, pack_hold, unpack_hold, pack_process, unpack_process}
-use Rattle.laws.proofs.Bools.{and_left, and_right, and_true, and_joins, both, stopped, passed, either, or_left, or_right}
+use Rattle.model.specs.Words.{entry_words, hold_words, bits, pack_name, pack_entry, unpack_entry, pack_hold, unpack_hold, pack_process, unpack_process}
+use Rattle.laws.proofs.Bools.{true_or_false, and_left, and_right, and_true, and_joins, both, stopped, passed, either, or_left, or_right}
 use Rattle.laws.proofs.Loops.{rest_at}
 use Rattle.laws.proofs.Pieces.{Word, same_equal, equal_same, bits_join, bits_whole}
 use Rattle.laws.proofs.RowWords.{same_halves}
@@ -92,6 +93,9 @@ pub record RowRead (k : ℕ) (w : List ℕ) (at : ℕ) (b : Block) : Type 0 wher
   pub small : Word (get_or w at 0)
   pub name : b ≡ block_in w (at + 1)
 
+pub row_read : (k at : ℕ) {w : List ℕ} {b : Block} → at + k ≤ length w → ((i : ℕ) → Fits w32 (get_or w i 0)) → b ≡ block_in w (at + 1) → RowRead k w at b
+row_read k at inside small name = record { inside = inside; small = omega (arith, small at); name = name }
+
 -- ENTRIES
 
 module _ (h : ℕ) (b : Block) where
@@ -129,11 +133,6 @@ module _ {w : List ℕ} {at : ℕ} {b : Block} (read : RowRead entry_words w at 
 
   pub entry_good_at : 65536 ≤ get_or w at 0 → good_name b ≡ entry_shaped (take entry_words (drop at w))
   entry_good_at g = entry_good (get_or w at 0) b read.small g ∙ ap entry_shaped entry_list
-
--- the entries are the first table
-pub entry_at : (w : List ℕ) (row : ℕ) {r : Bool} → r ≡ entry_shaped (take entry_words (drop (row * entry_words) w))
-    → r ≡ entry_shaped (take entry_words (drop (0 + row * entry_words) w))
-entry_at w row e = e ∙ ap (λ m. entry_shaped (take entry_words (drop m w))) (sym (zero-add (row * entry_words)))
 
 -- HOLDS
 
@@ -254,9 +253,9 @@ module _ (p : ℕ) where
       let u : pack_process (unpack_process (p ∷ [])) ≡ p ∷ [] = simp (n, unpack_process, pack_process) (ap (λ m. m ∷ []) (halves p l)) in
       sym (equal_same (sym u))
 
--- a process's word in the slice
-pub process_at : (w : List ℕ) (row : ℕ) → first_process_word + row < length w → {r : Bool} → r ≡ process_shaped (get_or w (first_process_word + row) 0 ∷ [])
-    → r ≡ process_shaped (take process_words (drop (first_process_word + row * process_words) w))
-process_at w row h e =
-    let n : first_process_word + row ≡ first_process_word + row * process_words = omega arith in
-    e ∙ ap process_shaped (sym (first_word 0 (first_process_word + row) w h) ∙ ap (λ m. take process_words (drop m w)) n)
+  pub process_decides : Word p → (p ≡ 0 → ⊥) → leb 65536 p ≡ process_shaped (p ∷ [])
+  process_decides l n =
+      elim (true_or_false (leb 65536 p)) [
+        | inl t ↦ t ∙ process_used l (leb-true 65536 p t)
+        | inr f ↦ f ∙ sym (ne_eqb p 0 n) ∙ process_blank (leb-false 65536 p f)
+      ]

@@ -3,8 +3,11 @@ use mathlib.Core.Path.{◌≡◌, refl, sym, ap, ap₂, ◌∙◌}
 use mathlib.Core.Bool.{Bool, true, false, ◌&&◌, ◌||◌}
 use mathlib.Core.List.{List, [], map}
 use Prim.Native.Nat.{ℕ, zero, suc, ◌+◌, ◌*◌, ◌≤◌, ◌<◌}
+use native.Mathlib.Decide.{ℕ_discrete}
 use native.Mathlib.Omega.{arith}
+use borrow.Author.Tests.{eq-eqb, ne_eqb}
 use borrow.Rule.Slice.PartMut.{mid_of}
+use lib.Dec.{eqb}
 use lib.ListN.{length, get_or, drop, length-drop}
 use Rattle.model.specs.Lists.{same, all, pieces}
 use Rattle.model.specs.Paths.{valid_name}
@@ -165,3 +168,16 @@ module _ (w : List ℕ) where
       by_rules ee ve en vn eh vh vr ep =
           ap (λ b. (ee && ve) && ((en && vn) && b)) (to_the_end eh (vh && vr) ep) ∙ ap (λ b. (ee && ve) && b) (and_middle en vn (eh && ep) (vh && vr))
           ∙ and_middle ee ve (en && (eh && ep)) (vn && (vh && vr)) ∙ ap (λ b. (ee && (en && (eh && ep))) && b) (in_order ve vn vh vr)
+
+  -- in the order in which they are tested, each where those before it passed
+  pub tested : {e n h : Bool} → e ≡ (eqb (length w) word_count && all entry_shaped (entry_pieces w)) → n ≡ (e && all node_shaped (node_pieces w))
+      → h ≡ (n && all hold_shaped (hold_pieces w)) → (h && all process_shaped (process_pieces w)) ≡ shaped w
+  tested p q r = elim (ℕ_discrete (length w) word_count) [
+    | yes l ↦ rw (r, q, p, eq-eqb (length w) word_count l) (regrouped (all entry_shaped (entry_pieces w)) (all node_shaped (node_pieces w)) (all hold_shaped (hold_pieces w)) _ ∙ all_shaped l)
+    | no n ↦ rw (r, q, p, ne_eqb (length w) word_count n) (wrong_length n)
+  ]
+    where
+      regrouped : (a b c d : Bool) → (((a && b) && c) && d) ≡ (a && (b && (c && d)))
+      regrouped true true c d = refl
+      regrouped true false c d = refl
+      regrouped false b c d = refl

@@ -12,9 +12,8 @@ use names::is_good_name;
 use paths::valid_target;
 use rows::{
     Block, COUNT_UNIT, ELEMENT, END, ENTRY_ROWS, ENTRY_WIDTH, HOLD_ROWS, HOLD_WIDTH, HOLDS_START,
-    LINK, NODE_ROWS, NODE_WIDTH, NODES_START, PROCESS_ROWS, PROCESSES_START, ROLE_PLACE,
-    TARGET_BYTES, TARGET_WORDS, TOP_UNIT, UPPER_UNIT, WORD_COUNT, block_at, bytes_at, length_bits,
-    top_bits,
+    LINK, NODE_ROWS, NODE_WIDTH, NODES_START, PROCESSES_START, ROLE_PLACE, TARGET_BYTES,
+    TARGET_WORDS, TOP_UNIT, UPPER_UNIT, WORD_COUNT, block_at, bytes_at, length_bits, top_bits,
 };
 
 // The words of the two roles, in the top bits.
@@ -26,75 +25,41 @@ const ELEMENT_ROLE: u32 = ELEMENT as u32 * TOP_UNIT;
 pub fn is_shaped(words: &[u32]) -> bool
     ensures { result ≡ shaped words.now }
 {
-    if words.len() != WORD_COUNT {
-        return false;
-    }
-    if !entries_shaped(words) {
-        return false;
-    }
-    if !nodes_shaped(words) {
-        return false;
-    }
-    if !holds_shaped(words) {
-        return false;
-    }
-    processes_shaped(words)
+    words.len() == WORD_COUNT
+        && entries_shaped(words)
+        && nodes_shaped(words)
+        && holds_shaped(words)
+        && processes_shaped(words)
 }
 
 fn entries_shaped(words: &[u32]) -> bool
     requires { length words.now ≡ word_count }
     ensures { result ≡ all entry_shaped (entry_pieces words.now) }
 {
-    let mut row = 0;
-    while row < ENTRY_ROWS {
-        if !entry_shaped(words, row) {
-            return false;
-        }
-        row += 1;
-    }
-    true
+    (0..ENTRY_ROWS).all(|row| entry_shaped(words, row))
 }
 
 fn nodes_shaped(words: &[u32]) -> bool
     requires { length words.now ≡ word_count }
     ensures { result ≡ all node_shaped (node_pieces words.now) }
 {
-    let mut row = 0;
-    while row < NODE_ROWS {
-        if !node_shaped(words, row) {
-            return false;
-        }
-        row += 1;
-    }
-    true
+    (0..NODE_ROWS).all(|row| node_shaped(words, row))
 }
 
 fn holds_shaped(words: &[u32]) -> bool
     requires { length words.now ≡ word_count }
     ensures { result ≡ all hold_shaped (hold_pieces words.now) }
 {
-    let mut row = 0;
-    while row < HOLD_ROWS {
-        if !hold_shaped(words, row) {
-            return false;
-        }
-        row += 1;
-    }
-    true
+    (0..HOLD_ROWS).all(|row| hold_shaped(words, row))
 }
 
 fn processes_shaped(words: &[u32]) -> bool
     requires { length words.now ≡ word_count }
     ensures { result ≡ all process_shaped (process_pieces words.now) }
 {
-    let mut row = 0;
-    while row < PROCESS_ROWS {
-        if !process_shaped(words[PROCESSES_START + row]) {
-            return false;
-        }
-        row += 1;
-    }
-    true
+    words[PROCESSES_START..]
+        .iter()
+        .all(|word| process_shaped(*word))
 }
 
 fn entry_shaped(words: &[u32], row: usize) -> bool
@@ -105,9 +70,10 @@ fn entry_shaped(words: &[u32], row: usize) -> bool
     let head = words[at];
     let name = block_at(words, at + 1);
     if head < UPPER_UNIT {
-        return is_blank(head, name, 0);
+        is_blank(head, name, 0)
+    } else {
+        is_good_name(name)
     }
-    is_good_name(name)
 }
 
 fn hold_shaped(words: &[u32], row: usize) -> bool
@@ -119,31 +85,23 @@ fn hold_shaped(words: &[u32], row: usize) -> bool
     let name = block_at(words, at + 1);
     let role = words[at + ROLE_PLACE];
     if head < UPPER_UNIT {
-        return is_blank(head, name, role);
+        is_blank(head, name, role)
+    } else {
+        is_role(role) && is_good_name(name)
     }
-    if !is_role(role) {
-        return false;
-    }
-    is_good_name(name)
 }
 
 fn process_shaped(word: u32) -> bool
     ensures { result ≡ process_shaped (word ∷ []) }
 {
-    if word < UPPER_UNIT {
-        return word == 0;
-    }
-    true
+    word == 0 || UPPER_UNIT <= word
 }
 
 // The word of an end hold, or of an element's.
 fn is_role(word: u32) -> bool
     ensures { result ≡ role_word word }
 {
-    if word == END_ROLE {
-        return true;
-    }
-    word == ELEMENT_ROLE
+    word == END_ROLE || word == ELEMENT_ROLE
 }
 
 fn is_blank(head: u32, name: Block, tail: u32) -> bool
@@ -164,24 +122,14 @@ fn node_shaped(words: &[u32], row: usize) -> bool
 {
     let at = NODES_START + row * NODE_WIDTH;
     let head = words[at];
-    let kind = top_bits(head);
-    if kind == 0 {
-        if head != 0 {
-            return false;
-        }
-        return all_zeros(words, at + 1);
-    }
     if head % COUNT_UNIT != 0 {
         return false;
     }
-    let length = length_bits(head);
-    if kind == LINK {
-        return link_shaped(words, at + 1, length);
+    match top_bits(head) {
+        0 => head == 0 && all_zeros(words, at + 1),
+        LINK => link_shaped(words, at + 1, length_bits(head)),
+        _ => length_bits(head) == 0 && all_zeros(words, at + 1),
     }
-    if length != 0 {
-        return false;
-    }
-    all_zeros(words, at + 1)
 }
 
 // Whether the 16 words from `at` on are zeros: they are joined bit by bit, which is quicker than a test of each.
@@ -189,13 +137,8 @@ fn all_zeros(words: &[u32], at: usize) -> bool
     requires { at + target_words ≤ length words.now }
     ensures { result ≡ zeros (take target_words (drop at words.now)) }
 {
-    let mut joined: u32 = 0;
-    let mut k = 0;
-    while k < TARGET_WORDS {
-        joined = joined | words[at + k];
-        k += 1;
-    }
-    joined == 0
+    let room = &words[at..at + TARGET_WORDS];
+    room.iter().fold(0, |joined, word| joined | *word) == 0
 }
 
 // Whether the 16 words from `at` on are those of a valid target of `size` bytes.
@@ -207,22 +150,12 @@ fn link_shaped(words: &[u32], at: usize, size: usize) -> bool
         return false;
     }
     let target = bytes_at(words, at);
-    if !zeros_behind(&target, size) {
-        return false;
-    }
-    valid_target(&target[..size])
+    zeros_behind(&target, size) && valid_target(&target[..size])
 }
 
 fn zeros_behind(target: &[u8; TARGET_BYTES], size: usize) -> bool
     requires { (size ≤ longest_target) × (length target.now ≡ longest_target) }
     ensures { result ≡ zeros (drop size target.now) }
 {
-    let mut i = size;
-    while i < TARGET_BYTES {
-        if target[i] != 0 {
-            return false;
-        }
-        i += 1;
-    }
-    true
+    target[size..].iter().all(|byte| *byte == 0)
 }

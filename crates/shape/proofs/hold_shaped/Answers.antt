@@ -3,29 +3,21 @@ use mathlib.Core.Path.{sym, ◌∙◌}
 use Prim.Native.Nat.{◌+◌, ◌*◌}
 use native.Mathlib.Omega.{arith}
 use Rattle.model.specs.Words.{hold_words, first_hold_word}
-use Rattle.shape.proofs.RowShapes.{RowRead, hold_blank_at, no_role, role_there}
+use Rattle.shape.proofs.RowShapes.{row_read, hold_blank_at, no_role, role_there}
 use Rattle.shape.proofs.hold_shaped.Goals as goal
 
 pub returns-then-head-lt-UPPER_UNIT : goal.returns-then-head-lt-UPPER_UNIT
 returns-then-head-lt-UPPER_UNIT c =
-    c.is_blank.ensures ∙ hold_blank_at (let it : RowRead hold_words c.args.words.now (first_hold_word + c.args.row * hold_words) c.block_at-name.result = record {
-      inside = omega (arith, c.requires.0);
-      small = omega (arith, c.type_inv.words (first_hold_word + c.args.row * hold_words));
-      name = c.block_at-name.ensures;
-    } in it) c.if-head-lt-UPPER_UNIT.true
+    c.is_blank.ensures
+    ∙ hold_blank_at (row_read hold_words (first_hold_word + c.args.row * hold_words) (omega arith) c.type_inv.words c.block_at-name.ensures) c.if-head-lt-UPPER_UNIT.true
 
-pub returns-then-not-is_role : goal.returns-then-not-is_role
-returns-then-not-is_role c =
-    no_role (let it : RowRead hold_words c.args.words.now (first_hold_word + c.args.row * hold_words) c.block_at-name.result = record {
-      inside = omega (arith, c.requires.0);
-      small = omega (arith, c.type_inv.words (first_hold_word + c.args.row * hold_words));
-      name = c.block_at-name.ensures;
-    } in it) c.if-head-lt-UPPER_UNIT.false (sym c.is_role.ensures ∙ c.if-not-is_role.true)
+pub returns-then-is_role : goal.returns-then-is_role
+returns-then-is_role c =
+    role_there (row_read hold_words (first_hold_word + c.args.row * hold_words) (omega arith) c.type_inv.words c.block_at-name.ensures)
+    c.if-head-lt-UPPER_UNIT.false (sym c.is_role.ensures ∙ c.if-is_role.true) c.is_good_name.ensures
 
-pub returns : goal.returns
-returns c =
-    role_there (let it : RowRead hold_words c.args.words.now (first_hold_word + c.args.row * hold_words) c.block_at-name.result = record {
-      inside = omega (arith, c.requires.0);
-      small = omega (arith, c.type_inv.words (first_hold_word + c.args.row * hold_words));
-      name = c.block_at-name.ensures;
-    } in it) c.if-head-lt-UPPER_UNIT.false (sym c.is_role.ensures ∙ c.if-not-is_role.false) c.is_good_name.ensures
+pub returns-else-is_role : goal.returns-else-is_role
+returns-else-is_role c =
+    c.if-is_role.false
+    ∙ no_role (row_read hold_words (first_hold_word + c.args.row * hold_words) (omega arith) c.type_inv.words c.block_at-name.ensures)
+    c.if-head-lt-UPPER_UNIT.false (sym c.is_role.ensures ∙ c.if-is_role.false)

@@ -1,31 +1,46 @@
 -- `shape::is_shaped` meets its contract: table after table. Assumes nothing.
-use mathlib.Core.Path.{sym, ◌∙◌}
+use mathlib.Core.Path.{◌≡◌, refl, ◌∙◌}
+use mathlib.Core.Bool.{Bool, false, ◌&&◌}
+use borrow.Author.Tests.{eq-eqb, ne_eqb}
 use Rattle.laws.proofs.Bools.{stopped, passed}
-use Rattle.shape.proofs.Whole.{wrong_length, all_shaped}
+use Rattle.shape.proofs.Whole.{tested}
 use Rattle.shape.proofs.is_shaped.Goals as goal
+use Rattle.shape.proofs.is_shaped.Goals.{then-words-eq-WORD_COUNT, else-words-eq-WORD_COUNT, then-entries_shaped, else-entries_shaped, then-nodes_shaped, else-nodes_shaped}
 
-pub returns-then-words-ne-WORD_COUNT : goal.returns-then-words-ne-WORD_COUNT
-returns-then-words-ne-WORD_COUNT c = wrong_length c.args.words.now c.if-words-ne-WORD_COUNT.true
+-- a test that fails decides for those behind it too
+failed : {v p : Bool} (x : Bool) → v ≡ p → p ≡ false → v ≡ (p && x)
+failed x e f = e ∙ f ∙ stopped x f
 
-pub returns-then-not-entries_shaped : goal.returns-then-not-entries_shaped
-returns-then-not-entries_shaped c = stopped _ (sym c.entries_shaped.ensures ∙ c.if-not-entries_shaped.true) ∙ all_shaped c.args.words.now c.if-words-ne-WORD_COUNT.false
+pub returns-then-holds_shaped : goal.returns-then-holds_shaped
+returns-then-holds_shaped c =
+    passed c.if-holds_shaped.true c.processes_shaped.ensures ∙
+    tested c.args.words.now
+    (elim c.if-words-eq-WORD_COUNT.branch [
+      | then-words-eq-WORD_COUNT v ↦ v.value-is ∙ passed (eq-eqb _ _ v.if-words-eq-WORD_COUNT.true) v.entries_shaped.ensures
+      | else-words-eq-WORD_COUNT v ↦ failed _ v.value-is (ne_eqb _ _ v.if-words-eq-WORD_COUNT.false)
+    ])
+    (elim c.if-entries_shaped.branch [
+      | then-entries_shaped v ↦ v.value-is ∙ passed v.if-entries_shaped.true v.nodes_shaped.ensures
+      | else-entries_shaped v ↦ failed _ v.value-is v.if-entries_shaped.false
+    ])
+    (elim c.if-nodes_shaped.branch [
+      | then-nodes_shaped v ↦ v.value-is ∙ passed v.if-nodes_shaped.true v.holds_shaped.ensures
+      | else-nodes_shaped v ↦ failed _ v.value-is v.if-nodes_shaped.false
+    ])
 
-pub returns-then-not-nodes_shaped : goal.returns-then-not-nodes_shaped
-returns-then-not-nodes_shaped c =
-    passed (sym c.entries_shaped.ensures ∙ c.if-not-entries_shaped.false)
-    (stopped _ (sym c.nodes_shaped.ensures ∙ c.if-not-nodes_shaped.true))
-    ∙ all_shaped c.args.words.now c.if-words-ne-WORD_COUNT.false
-
-pub returns-then-not-holds_shaped : goal.returns-then-not-holds_shaped
-returns-then-not-holds_shaped c =
-    passed (sym c.entries_shaped.ensures ∙ c.if-not-entries_shaped.false)
-    (passed (sym c.nodes_shaped.ensures ∙ c.if-not-nodes_shaped.false)
-    (stopped _ (sym c.holds_shaped.ensures ∙ c.if-not-holds_shaped.true)))
-    ∙ all_shaped c.args.words.now c.if-words-ne-WORD_COUNT.false
-
-pub returns : goal.returns
-returns c =
-    passed (sym c.entries_shaped.ensures ∙ c.if-not-entries_shaped.false)
-    (passed (sym c.nodes_shaped.ensures ∙ c.if-not-nodes_shaped.false)
-    (passed (sym c.holds_shaped.ensures ∙ c.if-not-holds_shaped.false) c.processes_shaped.ensures))
-    ∙ all_shaped c.args.words.now c.if-words-ne-WORD_COUNT.false
+pub returns-else-holds_shaped : goal.returns-else-holds_shaped
+returns-else-holds_shaped c =
+    failed _ refl c.if-holds_shaped.false ∙
+    tested c.args.words.now
+    (elim c.if-words-eq-WORD_COUNT.branch [
+      | then-words-eq-WORD_COUNT v ↦ v.value-is ∙ passed (eq-eqb _ _ v.if-words-eq-WORD_COUNT.true) v.entries_shaped.ensures
+      | else-words-eq-WORD_COUNT v ↦ failed _ v.value-is (ne_eqb _ _ v.if-words-eq-WORD_COUNT.false)
+    ])
+    (elim c.if-entries_shaped.branch [
+      | then-entries_shaped v ↦ v.value-is ∙ passed v.if-entries_shaped.true v.nodes_shaped.ensures
+      | else-entries_shaped v ↦ failed _ v.value-is v.if-entries_shaped.false
+    ])
+    (elim c.if-nodes_shaped.branch [
+      | then-nodes_shaped v ↦ v.value-is ∙ passed v.if-nodes_shaped.true v.holds_shaped.ensures
+      | else-nodes_shaped v ↦ failed _ v.value-is v.if-nodes_shaped.false
+    ])

@@ -1,60 +1,51 @@
 -- `shape::node_shaped` meets its contract. Assumes nothing.
-use mathlib.Core.Path.{◌∙◌}
-use Prim.Native.Nat.{◌+◌, ◌*◌}
+use mathlib.Core.Path.{◌≡◌, refl, ◌∙◌}
+use Prim.Native.Nat.{ℕ, ◌+◌, ◌*◌, ◌/◌, ◌<◌}
 use native.Mathlib.Omega.{arith}
-use lib.ListN.{get_or, take, drop}
-use Rattle.model.specs.Words.{node_words, first_node_word}
+use borrow.Author.Tests.{ne_eqb}
+use mathlib.Core.List.{List}
+use mir.Syntax.{w32}
+use mir.Val.{Fits}
+use lib.ListN.{length, get_or, take, drop}
+use Rattle.model.specs.Tables.{node_rows}
+use Rattle.model.specs.Words.{node_words, first_node_word, word_count}
 use Rattle.rows.specs.Blocks.{target_words}
 use Rattle.shape.proofs.NodeShapes.{NodeRead, node_read, free_dirty, free_clean, low_bits, link_read, plain_dirty, plain_clean}
 use Rattle.shape.proofs.node_shaped.Goals as goal
 
+-- the row's words as they are read
+module _ (w : List ℕ) (row : ℕ) (there : (length w ≡ word_count) × (row < node_rows)) (small : (i : ℕ) → Fits w32 (get_or w i 0)) where
+  abbrev at : ℕ
+  at = first_node_word + row * node_words
+
+  read : {kind : ℕ} → kind ≡ get_or w at 0 / 1073741824 → NodeRead (take node_words (drop at w)) (get_or w at 0) (take target_words (drop (at + 1) w)) kind
+  read = let long = there.0 in node_read w at (omega arith) small
+
 pub returns-then-head-ne0 : goal.returns-then-head-ne0
-returns-then-head-ne0 c =
-    free_dirty (let it : NodeRead (take node_words (drop (first_node_word + c.args.row * node_words) c.args.words.now))
-    (get_or c.args.words.now (first_node_word + c.args.row * node_words) 0)
-    (take target_words (drop ((first_node_word + c.args.row * node_words) + 1) c.args.words.now)) c.top_bits-kind.result = node_read c.args.words.now
-    (first_node_word + c.args.row * node_words) (omega (arith, c.requires.0))
-    (λ i. omega (arith, c.type_inv.words i)) c.top_bits-kind.ensures in it) c.if-kind-eq0.true c.if-head-ne0.true
+returns-then-head-ne0 c = low_bits (read c.args.words.now c.args.row c.requires c.type_inv.words refl) c.if-head-ne0.true
 
-pub returns-then-kind-eq0 : goal.returns-then-kind-eq0
-returns-then-kind-eq0 c =
-    c.all_zeros.ensures ∙ free_clean (let it : NodeRead (take node_words (drop (first_node_word + c.args.row * node_words) c.args.words.now))
-    (get_or c.args.words.now (first_node_word + c.args.row * node_words) 0)
-    (take target_words (drop ((first_node_word + c.args.row * node_words) + 1) c.args.words.now)) c.top_bits-kind.result = node_read c.args.words.now
-    (first_node_word + c.args.row * node_words) (omega (arith, c.requires.0))
-    (λ i. omega (arith, c.type_inv.words i)) c.top_bits-kind.ensures in it) c.if-kind-eq0.true c.if-head-ne0.false
+pub returns-then-head-eq0 : goal.returns-then-head-eq0
+returns-then-head-eq0 c =
+    c.all_zeros.ensures ∙ free_clean (read c.args.words.now c.args.row c.requires c.type_inv.words c.top_bits.ensures) c.in-0.is c.if-head-eq0.true
 
-pub returns-then-head-ne0-2 : goal.returns-then-head-ne0-2
-returns-then-head-ne0-2 c =
-    low_bits (let it : NodeRead (take node_words (drop (first_node_word + c.args.row * node_words) c.args.words.now))
-    (get_or c.args.words.now (first_node_word + c.args.row * node_words) 0)
-    (take target_words (drop ((first_node_word + c.args.row * node_words) + 1) c.args.words.now)) c.top_bits-kind.result = node_read c.args.words.now
-    (first_node_word + c.args.row * node_words) (omega (arith, c.requires.0))
-    (λ i. omega (arith, c.type_inv.words i)) c.top_bits-kind.ensures in it) c.if-kind-eq0.false c.if-head-ne0-2.true
+pub returns-else-head-eq0 : goal.returns-else-head-eq0
+returns-else-head-eq0 c =
+    ne_eqb _ 0 c.if-head-eq0.false ∙ free_dirty (read c.args.words.now c.args.row c.requires c.type_inv.words c.top_bits.ensures) c.in-0.is c.if-head-eq0.false
 
-pub returns-then-kind-eq-LINK : goal.returns-then-kind-eq-LINK
-returns-then-kind-eq-LINK c =
-    c.link_shaped.ensures ∙ link_read (let it : NodeRead (take node_words (drop (first_node_word + c.args.row * node_words) c.args.words.now))
-    (get_or c.args.words.now (first_node_word + c.args.row * node_words) 0)
-    (take target_words (drop ((first_node_word + c.args.row * node_words) + 1) c.args.words.now)) c.top_bits-kind.result = node_read c.args.words.now
-    (first_node_word + c.args.row * node_words) (omega (arith, c.requires.0))
-    (λ i. omega (arith, c.type_inv.words i)) c.top_bits-kind.ensures in it) c.if-kind-eq0.false c.if-head-ne0-2.false c.length_bits-length.ensures c.if-kind-eq-LINK.true
+pub returns-in-3 : goal.returns-in-3
+returns-in-3 c =
+    c.link_shaped.ensures
+    ∙ link_read (read c.args.words.now c.args.row c.requires c.type_inv.words c.top_bits.ensures) (λ z. omega (arith, c.in-3.is)) c.if-head-ne0.false
+    c.length_bits.ensures c.in-3.is
 
-pub returns-then-length-ne0 : goal.returns-then-length-ne0
-returns-then-length-ne0 c =
-    plain_dirty (let it : NodeRead (take node_words (drop (first_node_word + c.args.row * node_words) c.args.words.now))
-    (get_or c.args.words.now (first_node_word + c.args.row * node_words) 0)
-    (take target_words (drop ((first_node_word + c.args.row * node_words) + 1) c.args.words.now)) c.top_bits-kind.result = node_read c.args.words.now
-    (first_node_word + c.args.row * node_words) (omega (arith, c.requires.0))
-    (λ i. omega (arith, c.type_inv.words i)) c.top_bits-kind.ensures in it) c.if-kind-eq0.false c.if-head-ne0-2.false c.length_bits-length.ensures c.if-kind-eq-LINK.false
-    c.if-length-ne0.true
+pub returns-then-length_bits-eq0 : goal.returns-then-length_bits-eq0
+returns-then-length_bits-eq0 c =
+    c.all_zeros-then-length_bits-eq0.ensures
+    ∙ plain_clean (read c.args.words.now c.args.row c.requires c.type_inv.words c.top_bits.ensures) (λ z. omega arith) c.if-head-ne0.false
+    c.length_bits-in_default.ensures (λ z. omega arith) c.if-length_bits-eq0.true
 
-pub returns : goal.returns
-returns c =
-    c.all_zeros-2.ensures
-    ∙ plain_clean (let it : NodeRead (take node_words (drop (first_node_word + c.args.row * node_words) c.args.words.now))
-    (get_or c.args.words.now (first_node_word + c.args.row * node_words) 0)
-    (take target_words (drop ((first_node_word + c.args.row * node_words) + 1) c.args.words.now)) c.top_bits-kind.result = node_read c.args.words.now
-    (first_node_word + c.args.row * node_words) (omega (arith, c.requires.0))
-    (λ i. omega (arith, c.type_inv.words i)) c.top_bits-kind.ensures in it) c.if-kind-eq0.false c.if-head-ne0-2.false c.length_bits-length.ensures c.if-kind-eq-LINK.false
-    c.if-length-ne0.false
+pub returns-else-length_bits-eq0 : goal.returns-else-length_bits-eq0
+returns-else-length_bits-eq0 c =
+    ne_eqb _ 0 c.if-length_bits-eq0.false
+    ∙ plain_dirty (read c.args.words.now c.args.row c.requires c.type_inv.words c.top_bits.ensures) (λ z. omega arith) c.if-head-ne0.false
+    c.length_bits-in_default.ensures (λ z. omega arith) c.if-length_bits-eq0.false

@@ -1,21 +1,19 @@
--- `shape::nodes_shaped` meets its contract: row after row. Assumes nothing.
-use native.Mathlib.Omega.{arith}
-use Rattle.shape.proofs.RowByRow.{none_passed, row_fails, row_passes, all_pass}
-use mathlib.Core.Path.{ap}
-use mathlib.Core.Bool.{not}
+-- `shape::nodes_shaped` meets its contract: the rows by their numbers are the table's pieces. Assumes nothing.
+use mathlib.Core.Path.{refl, ◌∙◌}
+use borrow.Author.Tests.{tests}
+use Prim.Native.Nat.{◌+◌, ◌*◌}
+use lib.ListN.{take, drop}
+use Rattle.std.proofs.Common.{rules}
+use Rattle.std.proofs.lemmas.Iterator.{YieldsList-from_range}
+use Rattle.std.proofs.lemmas.Iterator.Search.{all_from_yields_List}
+use Rattle.model.specs.Tables.{node_rows}
+use Rattle.model.specs.Words.{node_words, first_node_word}
+use Rattle.shape.specs.Shaped.{node_shaped}
+use Rattle.shape.proofs.RowByRow.{all_rows}
 use Rattle.shape.proofs.nodes_shaped.Goals as goal
 
-pub loop-row-init : goal.loop-row-init
-loop-row-init c = none_passed _ _ _ _ _
-
-pub node_shaped-requires : goal.node_shaped-requires
-node_shaped-requires c = (c.requires, omega arith)
-
-pub returns-then-not-node_shaped : goal.returns-then-not-node_shaped
-returns-then-not-node_shaped c = row_fails c.loop-row.invariant c.loop-row-test.true c.node_shaped.ensures (ap not c.if-not-node_shaped.true)
-
-pub loop-row-preserved : goal.loop-row-preserved
-loop-row-preserved c = row_passes c.loop-row.invariant c.loop-row-test.true c.node_shaped.ensures (ap not c.if-not-node_shaped.false)
-
 pub returns : goal.returns
-returns c = all_pass c.loop-row.invariant c.loop-row-test.false
+returns c =
+    all_from_yields_List (λ row. node_shaped (take node_words (drop (first_node_word + row * node_words) c.args.words.now))) _ _ _ c.all.ensures.ran
+    (YieldsList-from_range 0 node_rows node_rows refl refl) (λ x b q k. search (rules, tests))
+    ∙ all_rows node_shaped node_words first_node_word c.args.words.now _ (λ row. refl) node_rows

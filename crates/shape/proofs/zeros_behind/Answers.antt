@@ -1,23 +1,21 @@
 -- `shape::zeros_behind` meets its contract: byte after byte. Assumes nothing.
-use mathlib.Core.Path.{refl}
-use borrow.Author.Tests.{eq-eqb, ne_eqb}
-use native.Mathlib.Omega.{arith}
+use mathlib.Core.Path.{◌∙◌}
+use borrow.Author.Tests.{tests}
 use lib.Dec.{eqb}
-use Rattle.laws.proofs.Loops.{all_failed, all_onward, all_passed}
+use native.Mathlib.Omega.{arith}
+use lib.ListN.{drop, length-drop}
+use lib.Seq.{take_all}
+use Rattle.std.proofs.Common.{rules}
+use Rattle.std.proofs.lemmas.Iterator.{YieldsList-from_slice}
+use Rattle.std.proofs.lemmas.Iterator.Search.{all_from_yields_List}
 use Rattle.shape.specs.Shaped.{zeros}
+use Rattle.shape.proofs.RowByRow.{all_same}
 use Rattle.shape.proofs.zeros_behind.Goals as goal
-
-pub loop-i-init : goal.loop-i-init
-loop-i-init c = (c.requires.0, refl)
-
-pub returns-then-target-i-ne0 : goal.returns-then-target-i-ne0
-unfolding zeros
-returns-then-target-i-ne0 c = all_failed (λ x. eqb x 0) 0 c.args.target.now c.loop-i.i (omega (arith, c.requires.1)) (ne_eqb _ 0 c.if-target-i-ne0.true) c.loop-i.invariant.1
-
-pub loop-i-preserved : goal.loop-i-preserved
-unfolding zeros
-loop-i-preserved c = (omega arith, all_onward (λ x. eqb x 0) 0 c.args.target.now c.loop-i.i (omega (arith, c.requires.1)) (eq-eqb _ 0 c.if-target-i-ne0.false) c.loop-i.invariant.1)
 
 pub returns : goal.returns
 unfolding zeros
-returns c = all_passed (λ x. eqb x 0) 0 c.args.target.now c.loop-i.i (omega (arith, c.requires.1)) c.loop-i.invariant.1
+returns c =
+    let behind = drop c.args.size c.args.target.now in
+    let long = length-drop c.args.size c.args.target.now in
+    let whole = c.iter.ensures.rest ∙ take_all _ behind (omega arith) in
+    all_from_yields_List (λ x. eqb x 0) _ _ _ c.all.ensures.ran (YieldsList-from_slice behind whole) (λ x b q k. search (rules, tests)) ∙ all_same (λ x. eqb x 0) behind
