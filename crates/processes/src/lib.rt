@@ -54,9 +54,7 @@ pub fn drop_process(words: &mut [u32], process: u16)
     requires { Stands words.old }
     ensures { Becomes words.new (with_processes (unpack words.old) (drop_process process (unpack words.old).processes)) }
 {
-    let mut i = 0;
-    while i < PROCESS_ROWS {
-        drop_if_process(words, i, process);
-        i += 1;
+    for row in 0..PROCESS_ROWS {
+        drop_if_process(words, row, process);
     }
 }
