@@ -1,12 +1,12 @@
 -- The row that a search gives: it is the model's, it is one of the list's, and a row passes just where there is one. Assumes nothing.
-use mathlib.Core.Path.{◌≡◌, refl, sym, ap, ◌∙◌}
+use mathlib.Core.Path.{◌≡◌, refl, ap, ◌∙◌}
 use mathlib.Core.Bool.{Bool, true, false}
 use mathlib.Core.List.{List}
 use Prim.Native.Nat.{ℕ, ◌<◌}
 use native.Mathlib.Omega.{arith}
 use borrow.Author.Tests.{lt-ltb, le-ltb}
 use lib.ListN.{length}
-use Rattle.std.specs.Prelude.{Option, Some, None, is_some, unwrap_or}
+use Rattle.std.specs.Prelude.{Option, Some, None, is_some}
 use Rattle.model.specs.Lists.{any, first}
 use Rattle.laws.proofs.Loops.{any_first, none_first}
 use Rattle.search.specs.Rows.{first_row}
@@ -46,10 +46,3 @@ module _ {A : Type 0} (f : A → Bool) (rows : List A) where
       go : (b : Bool) → any f rows ≡ b → is_some r ≡ b
       go true t = ap is_some (e ∙ some_is t)
       go false t = ap is_some (e ∙ none_is t)
-
-  pub found_or : {r : Option ℕ} {n : ℕ} → length rows ≡ n → r ≡ first_row f rows → unwrap_or r n ≡ first f 0 rows
-  found_or {r} {n} l e = go (any f rows) refl
-    where
-      go : (b : Bool) → any f rows ≡ b → unwrap_or r n ≡ first f 0 rows
-      go true t = ap (λ o. unwrap_or o n) (e ∙ some_is t)
-      go false t = ap (λ o. unwrap_or o n) (e ∙ none_is t) ∙ sym (none_first f rows t ∙ l)

@@ -1,9 +1,7 @@
 -- The process that calls, as the code has it: whether it is listed, and its user. Assumes nothing.
-use Rattle.std.specs.Prelude.{◌≡◌, Bool, true, false, List, ℕ}
+use Rattle.std.specs.Prelude.{◌≡◌, List, ℕ, Option, Some, None, cond}
 use Rattle.model.specs.Tables.{Process, listed, user_of}
 use Rattle.search.specs.declared.Caller.{Caller}
-use Rattle.search.specs.declared.Listing.{Listing}
-use Rattle.search.specs.declared.Listing.TheVariants.{Unlisted, Listed}
 
 abbrev pub caller : List Process → ℕ → Caller
 caller processes p = record { process = p; user = user_of processes p }
@@ -12,9 +10,6 @@ caller processes p = record { process = p; user = user_of processes p }
 pub record Known (processes : List Process) (c : Caller) : Type 0 where
   pub user : c.user ≡ user_of processes c.process
 
-abbrev pub listing : Bool → Caller → Listing
-listing true c = Listed c
-listing false c = Unlisted
-
-unfoldable pub listing_of : List Process → ℕ → Listing
-listing_of processes p = listing (listed processes p) (caller processes p)
+-- the caller, if it is listed
+unfoldable pub listing_of : List Process → ℕ → Option Caller
+listing_of processes p = cond (listed processes p) (Some (caller processes p)) None

@@ -2,7 +2,7 @@
 // The lent words searched: processes, entries and holds found, free rows found and counted. Each search gives what the model's own gives.
 ghost use Rattle.std.specs.Prelude.{◌≡◌, ◌<◌};
 ghost use Rattle.std.proofs.Math.Option.{some};
-ghost use Rattle.model.specs.Lists.{any, count, first};
+ghost use Rattle.model.specs.Lists.{any, count};
 ghost use Rattle.model.specs.Tables.{entry_rows, hold_rows, at, is_process, listed, user_of, free_entry, free_node, free_hold, free_process};
 ghost use Rattle.model.specs.Sound.{same_hold};
 ghost use Rattle.model.specs.Holds.{on};
@@ -28,12 +28,6 @@ pub const ROOT_USER: u16 = 0;
 pub struct Caller {
     pub process: u16,
     pub user: u16,
-}
-
-#[derive(Clone, Copy)]
-pub enum Listing {
-    Unlisted,
-    Listed(Caller),
 }
 
 // PROCESSES
@@ -64,17 +58,13 @@ pub fn user_of_process(words: &[u32], process: u16) -> u16
 }
 
 // The process that calls, its row looked up once.
-pub fn find_caller(words: &[u32], process: u16) -> Listing
+pub fn find_caller(words: &[u32], process: u16) -> Option<Caller>
     requires { Stands words.now }
     ensures { result ≡ listing_of (unpack words.now).processes process }
 {
-    match find_process(words, process) {
-        Some(row) => Listing::Listed(Caller {
-            process,
-            user: process_user(words, row),
-        }),
-        None => Listing::Unlisted,
-    }
+    let row = find_process(words, process)?;
+    let user = process_user(words, row);
+    Some(Caller { process, user })
 }
 
 // ENTRIES
@@ -143,40 +133,32 @@ pub fn free_hold_rows(words: &[u32]) -> usize
         .count()
 }
 
-// THE LOWEST FREE ROW of each table; the number of its rows where none is free
+// THE LOWEST FREE ROW of each table, if one is free
 
-pub fn free_entry_row(words: &[u32]) -> usize
+pub fn free_entry_row(words: &[u32]) -> Option<usize>
     requires { Stands words.now }
-    ensures { result ≡ first free_entry 0 (unpack words.now).entries }
+    ensures { result ≡ first_row free_entry (unpack words.now).entries }
 {
-    (0..ENTRY_ROWS)
-        .find(|row| entry_directory(words, *row) == 0)
-        .unwrap_or(ENTRY_ROWS)
+    (0..ENTRY_ROWS).find(|row| entry_directory(words, *row) == 0)
 }
 
-pub fn free_node_row(words: &[u32]) -> usize
+pub fn free_node_row(words: &[u32]) -> Option<usize>
     requires { Stands words.now }
-    ensures { result ≡ first free_node 0 (unpack words.now).nodes }
+    ensures { result ≡ first_row free_node (unpack words.now).nodes }
 {
-    (0..NODE_ROWS)
-        .find(|row| kind_in(words, *row) == 0)
-        .unwrap_or(NODE_ROWS)
+    (0..NODE_ROWS).find(|row| kind_in(words, *row) == 0)
 }
 
-pub fn free_hold_row(words: &[u32]) -> usize
+pub fn free_hold_row(words: &[u32]) -> Option<usize>
     requires { Stands words.now }
-    ensures { result ≡ first free_hold 0 (unpack words.now).holds }
+    ensures { result ≡ first_row free_hold (unpack words.now).holds }
 {
-    (0..HOLD_ROWS)
-        .find(|row| hold_directory(words, *row) == 0)
-        .unwrap_or(HOLD_ROWS)
+    (0..HOLD_ROWS).find(|row| hold_directory(words, *row) == 0)
 }
 
-pub fn free_process_row(words: &[u32]) -> usize
+pub fn free_process_row(words: &[u32]) -> Option<usize>
     requires { Stands words.now }
-    ensures { result ≡ first free_process 0 (unpack words.now).processes }
+    ensures { result ≡ first_row free_process (unpack words.now).processes }
 {
-    (0..PROCESS_ROWS)
-        .find(|row| process_number(words, *row) == 0)
-        .unwrap_or(PROCESS_ROWS)
+    (0..PROCESS_ROWS).find(|row| process_number(words, *row) == 0)
 }

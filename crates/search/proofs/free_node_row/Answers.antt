@@ -1,18 +1,15 @@
 -- `search::free_node_row` meets its contract: the row found is the first that is free. Assumes nothing.
-use mathlib.Core.Path.{◌∙◌, refl, sym}
+use mathlib.Core.Path.{refl, sym}
 use borrow.Author.Rules.{rules}
 use borrow.Author.Tests.{tests}
 use Rattle.laws.proofs.RowChains.{find_gives}
 use Rattle.model.specs.Tables.{free_node, no_node}
 use Rattle.model.specs.Words.{unpack}
 use Rattle.rows.proofs.Parts.{nodes_full}
-use Rattle.search.proofs.Rows.{found_or}
 use Rattle.search.proofs.free_node_row.Goals as goal
 
 pub returns : goal.returns
 unfolding free_node
 returns c =
     let w = c.args.words.now in
-    c.unwrap_or.ensures
-    ∙ found_or free_node (unpack w).nodes (nodes_full w)
-    (find_gives free_node no_node (unpack w).nodes refl (sym (nodes_full w)) _ c.find.result c.find.ensures.ran (λ x b q h. search (rules, tests)))
+    find_gives free_node no_node (unpack w).nodes refl (sym (nodes_full w)) _ c.find.result c.find.ensures.ran (λ x b q h. search (rules, tests))
