@@ -1,14 +1,15 @@
 -- The row that a search gives: it is the model's, it is one of the list's, and a row passes just where there is one. Assumes nothing.
-use mathlib.Core.Path.{◌≡◌, refl, ap, ◌∙◌}
-use mathlib.Core.Bool.{Bool, true, false}
+use mathlib.Core.Path.{◌≡◌, refl, sym, ap, ◌∙◌}
+use mathlib.Core.Bool.{Bool, true, false, not}
 use mathlib.Core.List.{List}
 use Prim.Native.Nat.{ℕ, ◌<◌}
 use native.Mathlib.Omega.{arith}
 use borrow.Author.Tests.{lt-ltb, le-ltb}
-use lib.ListN.{length}
-use Rattle.std.specs.Prelude.{Option, Some, None, is_some}
-use Rattle.model.specs.Lists.{any, first}
-use Rattle.laws.proofs.Loops.{any_first, none_first}
+use lib.ListN.{length, set}
+use lib.Seq.{set_out}
+use Rattle.std.specs.Prelude.{Option, Some, None, is_none, is_some}
+use Rattle.model.specs.Lists.{any, first, put}
+use Rattle.laws.proofs.Loops.{any_first, none_first, put_first}
 use Rattle.search.specs.Rows.{first_row}
 
 pub record Found {A : Type 0} (f : A → Bool) (rows : List A) (k : ℕ) : Type 0 where
@@ -39,6 +40,20 @@ module _ {A : Type 0} (f : A → Bool) (rows : List A) where
       go : (b : Bool) → any f rows ≡ b → b ≡ false
       go false t = refl
       go true t = let no : None ≡ Some (first f 0 rows) = e ∙ some_is t in cc
+
+  pub found_lacks : {r : Option ℕ} → r ≡ first_row f rows → is_none r ≡ not (any f rows)
+  found_lacks {r} e = go (any f rows) refl
+    where
+      go : (b : Bool) → any f rows ≡ b → is_none r ≡ not b
+      go true t = ap is_none (e ∙ some_is t)
+      go false t = ap is_none (e ∙ none_is t)
+
+  -- a new row goes into the one that is found free
+  pub put_found : (new : A) {k : ℕ} → Some k ≡ first_row f rows → put f new rows ≡ set rows k new
+  put_found new e = put_first f new rows ∙ ap (λ n. set rows n new) (sym (found_row e).is)
+
+  pub put_missing : (new : A) → None ≡ first_row f rows → put f new rows ≡ rows
+  put_missing new e = put_first f new rows ∙ set_out rows (first f 0 rows) new (omega (arith, none_first f rows (found_none e)))
 
   pub found_any : {r : Option ℕ} → r ≡ first_row f rows → is_some r ≡ any f rows
   found_any {r} e = go (any f rows) refl
