@@ -7,6 +7,7 @@ use native.Mathlib.Omega.{arith}
 use lib.Dec.{eqb}
 use lib.ListN.{length}
 use borrow.Author.Tests.{eq-eqb, ne_eqb}
+use Rattle.std.proofs.Common.{Ok, Err}
 use Rattle.model.specs.Lists.{empty}
 use Rattle.model.specs.Refusals.{refused, granted, ◌when◌, ◌>>◌}
 use Rattle.model.specs.Paths.{valid_path, valid_target}
@@ -133,35 +134,35 @@ module _ (n : Numbers) (p q : List ℕ) (r : Row) (e : r ≡ coded_row (row_of n
   paths_by_row found = rw (found, path1_cell r n.call e, path2_cell r n.call e)
 
 module _ (c : Call) where
-  pub fields_first : fields_broken c ≡ true → fault_of (well_formed c) ≡ 2
+  pub fields_first : fields_broken c ≡ true → fault_of (well_formed c) ≡ Err 2
   unfolding well_formed ◌>>◌ fault_of
   fields_first e = rw e
 
-  pub paths_second : fields_broken c ≡ false → paths_broken c ≡ true → fault_of (well_formed c) ≡ 3
+  pub paths_second : fields_broken c ≡ false → paths_broken c ≡ true → fault_of (well_formed c) ≡ Err 3
   unfolding well_formed ◌>>◌ fault_of
   paths_second e h = rw (e, h)
 
-  pub nothing_third : fields_broken c ≡ false → paths_broken c ≡ false → fault_of (well_formed c) ≡ 0
+  pub nothing_third : fields_broken c ≡ false → paths_broken c ≡ false → fault_of (well_formed c) ≡ Ok tt
   unfolding well_formed ◌>>◌ fault_of
   nothing_third e h = rw (e, h)
 
--- WHAT THE NUMBER SAYS
+-- WHAT THE ANSWER SAYS
 
-module _ (c : Call) (n : ℕ) (e : n ≡ fault_of (well_formed c)) where
-  pub fault_refuses : (n ≡ 0 → ⊥) → well_formed c ≡ refused n
+module _ (c : Call) where
+  pub fault_refuses : {n : ℕ} → Err n ≡ fault_of (well_formed c) → well_formed c ≡ refused n
   unfolding well_formed ◌>>◌ fault_of
-  fault_refuses wrong = go (fields_broken c) (paths_broken c) e
+  fault_refuses {n} e = go (fields_broken c) (paths_broken c) e
     where
-      go : (a b : Bool) → n ≡ fault_of ((2 when a) >> ((3 when b) >> granted c)) → ((2 when a) >> ((3 when b) >> granted c)) ≡ refused n
-      go true b q = rw q
-      go false true q = rw q
-      go false false q = absurd (wrong q)
+      go : (a b : Bool) → Err n ≡ fault_of ((2 when a) >> ((3 when b) >> granted c)) → ((2 when a) >> ((3 when b) >> granted c)) ≡ refused n
+      go true b q = cc
+      go false true q = cc
+      go false false q = cc
 
-  pub no_fault : n ≡ 0 → well_formed c ≡ granted c
+  pub no_fault : Ok tt ≡ fault_of (well_formed c) → well_formed c ≡ granted c
   unfolding well_formed ◌>>◌ fault_of
-  no_fault right = go (fields_broken c) (paths_broken c) e
+  no_fault e = go (fields_broken c) (paths_broken c) e
     where
-      go : (a b : Bool) → n ≡ fault_of ((2 when a) >> ((3 when b) >> granted c)) → ((2 when a) >> ((3 when b) >> granted c)) ≡ granted c
-      go true b q = absurd (omega arith)
-      go false true q = absurd (omega arith)
+      go : (a b : Bool) → Ok tt ≡ fault_of ((2 when a) >> ((3 when b) >> granted c)) → ((2 when a) >> ((3 when b) >> granted c)) ≡ granted c
+      go true b q = cc
+      go false true q = cc
       go false false q = refl

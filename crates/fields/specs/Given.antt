@@ -1,5 +1,5 @@
 -- A call by the values of its fields, and the number that its fields are refused with. Assumes nothing.
-use Rattle.std.specs.Prelude.{Bool, not, ◌&&◌, ◌||◌, List, ℕ, ◌+◌, ◌*◌, ◌^◌, ◌≤◌, ◌<◌, eqb, length}
+use Rattle.std.specs.Prelude.{Bool, not, ◌&&◌, ◌||◌, List, ℕ, ◌+◌, ◌*◌, ◌^◌, ◌≤◌, ◌<◌, eqb, length, ⊤, Result, Ok, Err}
 use Rattle.model.specs.Refusals.{Outcome, refused, granted}
 use Rattle.model.specs.Words.{bits}
 use Rattle.model.specs.Records.{Call, fork_call}
@@ -30,10 +30,10 @@ numbers_broken n row =
     || (not row.1 && not (eqb n.argument 0))
     || not (eqb n.zeros 0)
 
--- 0 where nothing is refused
-unfoldable pub fault_of : {A : Type 0} → Outcome A → ℕ
-fault_of (refused n) = n
-fault_of (granted a) = 0
+-- the number of a refusal, or that nothing is refused
+unfoldable pub fault_of : {A : Type 0} → Outcome A → Result ⊤ ℕ
+fault_of (refused n) = Err n
+fault_of (granted a) = Ok tt
 
 -- the numbers that are within their fields' widths, and the number that they make
 pub record HeadFits (n : Numbers) (length1 length2 : ℕ) : Type 0 where

@@ -19,44 +19,47 @@ pub struct Numbers {
     pub zeros: u8,
 }
 
-// The number that a call's fields are refused with by reading and packing, 0 for none.
-pub fn fault(numbers: Numbers, path1: &[u8], path2: &[u8]) -> u8
+// Refuses a call's fields with the number that reading and packing give back: the numbers and blank cells before the paths.
+pub fn fault(numbers: Numbers, path1: &[u8], path2: &[u8]) -> Result<(), u8>
     ensures { result ≡ fault_of (well_formed (given numbers path1.now path2.now)) }
 {
     let row = table::row_of(numbers.call);
     if fields_broken(row, numbers, path1, path2) {
-        return BAD_FIELD;
+        return Err(BAD_FIELD);
     }
     if paths_broken(row, path1, path2) {
-        return BAD_PATH;
+        return Err(BAD_PATH);
     }
-    0
+    Ok(())
 }
 
 // The numbers, or a path where the row has a blank.
 fn fields_broken(row: Row, numbers: Numbers, path1: &[u8], path2: &[u8]) -> bool
     ensures { result ≡ (numbers_broken numbers row || not_blank (meant row.2) path1.now || not_blank (meant row.3) path2.now) }
 {
-    numbers_broken(numbers, row) || filled_blank(row.2, path1) || filled_blank(row.3, path2)
+    let Row(_, _, wanted1, wanted2) = row;
+    numbers_broken(numbers, row) || filled_blank(wanted1, path1) || filled_blank(wanted2, path2)
 }
 
 fn paths_broken(row: Row, path1: &[u8], path2: &[u8]) -> bool
     ensures { result ≡ (not_valid (meant row.2) path1.now || not_valid (meant row.3) path2.now) }
 {
-    not_valid(row.2, path1) || not_valid(row.3, path2)
+    let Row(_, _, wanted1, wanted2) = row;
+    not_valid(wanted1, path1) || not_valid(wanted2, path2)
 }
 
 // What is wrong in the numbers alone, by the call's row.
 fn numbers_broken(numbers: Numbers, row: Row) -> bool
     ensures { result ≡ numbers_broken numbers row }
 {
-    if !table::is_call(row.0) || numbers.process == 0 || numbers.zeros != 0 {
+    let Row(class, argument_wanted, _, _) = row;
+    if !table::is_call(class) || numbers.process == 0 || numbers.zeros != 0 {
         return true;
     }
     if numbers.argument == 0 {
         return numbers.call == table::FORK;
     }
-    !row.1
+    !argument_wanted
 }
 
 fn filled_blank(wanted: Wanted, path: &[u8]) -> bool

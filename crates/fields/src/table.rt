@@ -71,6 +71,6 @@ pub(crate) fn is_call(class: Class) -> bool
 pub fn keeps_entries(call: u32) -> bool
     ensures { result ≡ keeps_entries (row_of call).effect }
 {
-    let row = row_of(call);
-    !matches!(row.0, Class::Creation | Class::Removal)
+    let Row(class, _, _, _) = row_of(call);
+    !matches!(class, Class::Creation | Class::Removal)
 }

@@ -13,23 +13,23 @@ use Rattle.std.proofs.lemmas.Slice.{put_mid-paste}
 use Rattle.laws.proofs.Copies.{paste_behind}
 use Rattle.invariants.proofs.Accepted.{accepted_fits}
 use Rattle.fields.specs.declared.Numbers.{Numbers}
-use Rattle.records.specs.declared.Packing.TheVariants.{Length, Refused}
+use Rattle.std.proofs.Common.{Ok, Err}
 use Rattle.fields.specs.Given.{given, fault_of, HeadFits, joined_head}
 use Rattle.records.specs.Packing.{answered, Packs}
 use Rattle.fields.proofs.FieldTests.{fault_refuses, no_fault}
 
 module _ (c : Call) (d : List ℕ) where
-  pub packs_refused : (k : ℕ) → well_formed c ≡ refused k → Packs c d (Refused k) d
+  pub packs_refused : (k : ℕ) → well_formed c ≡ refused k → Packs c d (Err k) d
   unfolding packing packed answered ◌>>=◌
   packs_refused k e = record { answer = rw e; bytes = rw e }
 
   module _ (formed : well_formed c ≡ granted c) where
-    pub packs_no_room : length d < record_length c → Packs c d (Refused 18) d
+    pub packs_no_room : length d < record_length c → Packs c d (Err 18) d
     unfolding packing packed answered ◌>>◌ ◌>>=◌
     packs_no_room h = let t = lt-ltb (length d) (record_length c) h in record { answer = rw (formed, t); bytes = rw (formed, t) }
 
     pub packs_written : record_length c ≤ length d → (after : List ℕ) → after ≡ write c ++ drop (record_length c) d
-        → Packs c d (Length (record_length c)) after
+        → Packs c d (Ok (record_length c)) after
     unfolding packing packed answered ◌>>◌ ◌>>=◌
     packs_written h after e =
         let t = le-ltb (length d) (record_length c) h in
@@ -66,24 +66,24 @@ abbrev pub numbers : ℕ → ℕ → ℕ → Numbers
 numbers call process argument = record { call = call; process = process; argument = argument; zeros = 0 }
 
 -- what the code has found: the number of the fault, or none
-module _ (n : Numbers) (p q : List ℕ) {k : ℕ} (fault : k ≡ fault_of (well_formed (given n p q))) where
-  pub fault_packs : (d : List ℕ) → (k ≡ 0 → ⊥) → Packs (given n p q) d (Refused k) d
-  fault_packs d wrong = packs_refused (given n p q) d k (fault_refuses (given n p q) k fault wrong)
+module _ (n : Numbers) (p q : List ℕ) where
+  pub fault_packs : (d : List ℕ) {k : ℕ} → Err k ≡ fault_of (well_formed (given n p q)) → Packs (given n p q) d (Err k) d
+  fault_packs d {k} wrong = packs_refused (given n p q) d k (fault_refuses (given n p q) wrong)
 
-  module _ (right : k ≡ 0) where
+  module _ (right : Ok tt ≡ fault_of (well_formed (given n p q))) where
     formed : well_formed (given n p q) ≡ granted (given n p q)
-    formed = no_fault (given n p q) k fault right
+    formed = no_fault (given n p q) right
 
     pub head_fits : n.process < 2 ^ 16 → n.argument < 2 ^ 16 → HeadFits n (length p) (length q)
     head_fits process argument =
         let f = accepted_fits (given n p q) process argument formed in
         record { call = f.call; path1 = f.path1; path2 = f.path2; zeros = f.zeros }
 
-    pub full_packs : (d : List ℕ) → length d < 7 + length p + length q → Packs (given n p q) d (Refused 18) d
+    pub full_packs : (d : List ℕ) → length d < 7 + length p + length q → Packs (given n p q) d (Err 18) d
     unfolding record_length
     full_packs d h = packs_no_room (given n p q) d formed h
 
     pub record_packs : (d after : List ℕ) → 7 + length p + length q ≤ length d
-        → after ≡ write (given n p q) ++ drop (7 + length p + length q) d → Packs (given n p q) d (Length (7 + length p + length q)) after
+        → after ≡ write (given n p q) ++ drop (7 + length p + length q) d → Packs (given n p q) d (Ok (7 + length p + length q)) after
     unfolding record_length
     record_packs d after room e = packs_written (given n p q) d formed room after e

@@ -16,9 +16,7 @@ use Rattle.laws.proofs.Pieces.{Byte}
 use Rattle.invariants.proofs.Records.{Whole, whole}
 use Rattle.invariants.proofs.Accepted.{well_formed_same, fields_right, packed_read, packed_taken, accepted_packing, accepted_packed}
 use Rattle.records.specs.declared.Fields.{Fields}
-use Rattle.records.specs.declared.Reading.TheVariants.{Accepted}
-use Rattle.records.specs.declared.Packing.{Packing}
-use Rattle.records.specs.declared.Packing.TheVariants.{Length}
+use Rattle.std.proofs.Common.{Result, Ok}
 use Rattle.records.specs.Reading as readings
 use Rattle.records.specs.Reading.{reading, part_of, outcome_of, taken_of, fields_of}
 use Rattle.records.specs.Packing as packings
@@ -46,14 +44,14 @@ module _ (s : List ℕ) (w : Whole s) where
   path2_there =
       rw (path1_long, ← drop-drop (bits 11 8 (head_of s)) 7 s) (take_as_long (bits 3 8 (head_of s)) (drop (bits 11 8 (head_of s)) (drop 7 s)))
 
-call_there : (s : List ℕ) (r : Call) → model.read s ≡ granted r → outcome_of s (Accepted (fields_of r) (taken s)) ≡ granted r
+call_there : (s : List ℕ) (r : Call) → model.read s ≡ granted r → outcome_of s (Ok (record { fields = fields_of r; taken = taken s })) ≡ granted r
 unfolding model.read well_formed outcome_of fields_of
 call_there s r e =
     let p = passed 17 (short s) (well_formed (fields s)) e in
     let w = whole s p.missed in
     let same = well_formed_same (fields s) p.then in
     let zeros = (fields_right (fields s) (passed 2 (fields_broken (fields s)) _ p.then).missed).zeros in
-    let there : outcome_of s (Accepted (fields_of (fields s)) (taken s)) ≡ granted (fields s) =
+    let there : outcome_of s (Ok (record { fields = fields_of (fields s); taken = taken s })) ≡ granted (fields s) =
     rw (path1_there s w, path2_there s w, ← zeros) in
     rw (← same) there
 
@@ -83,11 +81,11 @@ unfolding packings.answered packings.outcome_of
 packing_means (refused n) = refl
 packing_means (granted n) = refl
 
-length_means : (n : ℕ) → packings.outcome_of (Length n) ≡ granted n
+length_means : (n : ℕ) → packings.outcome_of (Ok n) ≡ granted n
 unfolding packings.outcome_of
 length_means n = refl
 
-length_answered : (n : ℕ) → packings.answered (granted n) ≡ Length n
+length_answered : (n : ℕ) → packings.answered (granted n) ≡ Ok n
 unfolding packings.answered
 length_answered n = refl
 
@@ -97,7 +95,7 @@ pub record ReadAgain (c : Call) (n : ℕ) (bytes : List ℕ) : Type 0 where
   pub same_length : taken_of (reading bytes) ≡ n
 
 pub packed_then_read : (call process argument : ℕ) (path1 path2 before after : List ℕ) (n : ℕ) → process < 2 ^ 16 → argument < 2 ^ 16
-    → Packs (called call process argument path1 path2) before (Length n) after → ReadAgain (called call process argument path1 path2) n after
+    → Packs (called call process argument path1 path2) before (Ok n) after → ReadAgain (called call process argument path1 path2) n after
 packed_then_read call process argument path1 path2 before after n hp ha packs =
     let c = called call process argument path1 path2 in
     let o : packing c before ≡ granted n = sym (packing_means (packing c before)) ∙ sym (ap packings.outcome_of packs.answer) ∙ length_means n in
@@ -114,11 +112,11 @@ packed_then_read call process argument path1 path2 before after n hp ha packs =
 abbrev pub again : List ℕ → Fields → Call
 again s f = called f.call f.process f.argument (part_of s f.path1) (part_of s f.path2)
 
-pub record PackedAgain (s : List ℕ) (n : ℕ) (before : List ℕ) (r : Packing) (after : List ℕ) : Type 0 where
-  pub same_length : r ≡ Length n
+pub record PackedAgain (s : List ℕ) (n : ℕ) (before : List ℕ) (r : Result ℕ ℕ) (after : List ℕ) : Type 0 where
+  pub same_length : r ≡ Ok n
   pub same_bytes : after ≡ take n s ++ drop n before
 
-pub read_then_packed : (s : List ℕ) (f : Fields) (n : ℕ) (before after : List ℕ) (r : Packing) → Each Byte s → reading s ≡ Accepted f n
+pub read_then_packed : (s : List ℕ) (f : Fields) (n : ℕ) (before after : List ℕ) (r : Result ℕ ℕ) → Each Byte s → reading s ≡ Ok (record { fields = f; taken = n })
     → n ≤ length before → Packs (again s f) before r after → PackedAgain s n before r after
 unfolding outcome_of taken_of
 read_then_packed s f n before after r bytes e room packs =

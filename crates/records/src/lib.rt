@@ -27,29 +27,34 @@ pub struct Fields {
     pub path2: Part,
 }
 
-// What reading answers, with the bytes that it took.
+// A record that reading accepted, with the bytes that it took.
 #[derive(Clone, Copy)]
-pub enum Reading {
-    Accepted { fields: Fields, taken: usize },
-    Refused { number: u8, taken: usize },
+pub struct Accepted {
+    pub fields: Fields,
+    pub taken: usize,
 }
 
-// What packing answers: the record's length, or the number of its refusal.
+// The number that reading refused a record with, and the bytes that it took.
 #[derive(Clone, Copy)]
-pub enum Packing {
-    Length(usize),
-    Refused(u8),
+pub struct Rejected {
+    pub number: u8,
+    pub taken: usize,
 }
+
+pub type Reading = Result<Accepted, Rejected>;
+
+// The bytes of a record that are not all there are not taken.
+const CUT_SHORT: Rejected = Rejected {
+    number: SHORT_RECORD,
+    taken: 0,
+};
 
 // Reads the record at the front of the bytes. What stands behind it does not count.
 pub fn read(bytes: &[u8]) -> Reading
     ensures { result ≡ reading bytes.now }
 {
     if bytes.len() < HEAD_LENGTH {
-        return Reading::Refused {
-            number: SHORT_RECORD,
-            taken: 0,
-        };
+        return Err(CUT_SHORT);
     }
     let head = heads::head_of(bytes);
     let length1 = heads::path1_length(head);
@@ -57,39 +62,29 @@ pub fn read(bytes: &[u8]) -> Reading
     let middle = HEAD_LENGTH + length1;
     let taken = middle + length2;
     if bytes.len() < taken {
-        return Reading::Refused {
-            number: SHORT_RECORD,
-            taken: 0,
-        };
+        return Err(CUT_SHORT);
     }
     let numbers = heads::numbers_of(head);
-    let number = fields::fault(numbers, &bytes[HEAD_LENGTH..middle], &bytes[middle..taken]);
-    if number != 0 {
-        return Reading::Refused { number, taken };
-    }
+    let path1 = &bytes[HEAD_LENGTH..middle];
+    let path2 = &bytes[middle..taken];
+    fields::fault(numbers, path1, path2).map_err(|number| Rejected { number, taken })?;
     let fields = placed(numbers, length1, length2);
-    Reading::Accepted { fields, taken }
+    Ok(Accepted { fields, taken })
 }
 
 pub fn taken_of(found: Reading) -> usize
     ensures { result ≡ taken_of found }
 {
     match found {
-        Reading::Accepted { fields: _, taken } => taken,
-        Reading::Refused { number: _, taken } => taken,
+        Ok(accepted) => accepted.taken,
+        Err(rejected) => rejected.taken,
     }
 }
 
 pub fn is_cut_short(found: Reading) -> bool
     ensures { result ≡ cut_short found }
 {
-    match found {
-        Reading::Accepted {
-            fields: _,
-            taken: _,
-        } => false,
-        Reading::Refused { number, taken: _ } => number == SHORT_RECORD,
-    }
+    found.is_err_and(|rejected| rejected.number == SHORT_RECORD)
 }
 
 // The fields of a record, where path 1 stands behind the head and path 2 behind it.
@@ -122,7 +117,7 @@ pub fn pack(
     path1: &[u8],
     path2: &[u8],
     destination: &mut [u8],
-) -> Packing
+) -> Result<usize, u8>
     ensures { Packs (called call process argument path1.now path2.now) destination.old result destination.new }
 {
     let numbers = Numbers {
@@ -131,16 +126,13 @@ pub fn pack(
         argument,
         zeros: 0,
     };
-    let number = fields::fault(numbers, path1, path2);
-    if number != 0 {
-        return Packing::Refused(number);
-    }
+    fields::fault(numbers, path1, path2)?;
     let length = HEAD_LENGTH + path1.len() + path2.len();
     if destination.len() < length {
-        return Packing::Refused(SHORT_DESTINATION);
+        return Err(SHORT_DESTINATION);
     }
     write_record(numbers, path1, path2, destination);
-    Packing::Length(length)
+    Ok(length)
 }
 
 // The record of a call whose numbers fit, into a destination with room for it.

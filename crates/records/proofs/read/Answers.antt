@@ -1,8 +1,10 @@
 -- `records::read` meets its contract. Assumes nothing.
-use mathlib.Core.Path.{sym}
+use mathlib.Core.Path.{sym, ◌∙◌}
 use native.Mathlib.Omega.{arith}
+use Rattle.std.proofs.Common.{rules}
+use Rattle.std.proofs.lemmas.Result.{err_from_is_err_and}
 use Rattle.model.specs.Words.{bits}
-use Rattle.records.proofs.Readings.{no_head, no_paths, fields_refused, fields_accepted}
+use Rattle.records.proofs.Readings.{no_head, no_paths, fields_refused, fields_accepted, not_refused, refused_with}
 use Rattle.records.proofs.read.Goals as goal
 
 pub returns-then-bytes-lt-HEAD_LENGTH : goal.returns-then-bytes-lt-HEAD_LENGTH
@@ -25,18 +27,21 @@ returns-then-bytes-taken c =
       head_there = c.if-bytes-lt-HEAD_LENGTH.false;
     }) c.if-bytes-taken.true)
 
-pub returns-then-number-ne0 : goal.returns-then-number-ne0
-returns-then-number-ne0 c =
-    sym (fields_refused (record {
+pub placed-fields-requires : goal.placed-fields-requires
+unfolding bits
+placed-fields-requires c = omega arith
+
+pub returns-in_err-map_err : goal.returns-in_err-map_err
+returns-in_err-map_err c =
+    let made = err_from_is_err_and c.from_residual.result c.from_residual.ensures.1 in
+    rw (made.1, made.2)
+    (refused_with c.fault.result c.in_err-map_err.field-0.0 _ c.in_err-map_err.ensures.cases (λ k refused.
+    fields_refused (record {
       head_is = c.head_of-head.ensures;
       path1_is = c.path1_length-length1.ensures;
       path2_is = c.path2_length-length2.ensures;
       head_there = c.if-bytes-lt-HEAD_LENGTH.false;
-    }) c.if-bytes-taken.false _ _ c.numbers_of-numbers.ensures c.fault-number.ensures c.if-number-ne0.true)
-
-pub placed-fields-requires : goal.placed-fields-requires
-unfolding bits
-placed-fields-requires c = omega arith
+    }) c.if-bytes-taken.false _ c.numbers_of-numbers.ensures (sym refused ∙ c.fault.ensures)) (λ k p. search rules))
 
 pub returns : goal.returns
 returns c =
@@ -46,4 +51,4 @@ returns c =
       path1_is = c.path1_length-length1.ensures;
       path2_is = c.path2_length-length2.ensures;
       head_there = c.if-bytes-lt-HEAD_LENGTH.false;
-    }) c.if-bytes-taken.false _ _ c.numbers_of-numbers.ensures c.fault-number.ensures c.if-number-ne0.false))
+    }) c.if-bytes-taken.false _ c.numbers_of-numbers.ensures (sym (not_refused _ c.in_ok-map_err.ensures.variant) ∙ c.fault.ensures)))

@@ -3,10 +3,10 @@ use mathlib.Core.Path.{ap, sym}
 use Rattle.records.specs.Reading.{taken_of}
 use Rattle.records.proofs.taken_of.Goals as goal
 
-pub returns-in-Accepted : goal.returns-in-Accepted
+pub returns-in-Ok : goal.returns-in-Ok
 unfolding taken_of
-returns-in-Accepted c = sym (ap taken_of c.in-Accepted.is)
+returns-in-Ok c = sym (ap taken_of c.in-Ok.is)
 
-pub returns-in-Refused : goal.returns-in-Refused
+pub returns-in-Err : goal.returns-in-Err
 unfolding taken_of
-returns-in-Refused c = sym (ap taken_of c.in-Refused.is)
+returns-in-Err c = sym (ap taken_of c.in-Err.is)

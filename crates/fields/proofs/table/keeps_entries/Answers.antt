@@ -7,7 +7,7 @@ use Rattle.fields.proofs.table.keeps_entries.Goals.{in-Creation, in_default}
 
 pub returns : goal.returns
 returns c =
-    let cell = effect_cell _ _ c.row_of-row.ensures in
+    let cell = effect_cell _ _ c.row_of-class.ensures in
     elim c.match-matches.branch [
       | in-Creation w ↦ ap not w.matches-is ∙ sym (entries_change _ w.in-Creation.is) ∙ cell
       | in_default w ↦ ap not w.matches-is ∙ sym (entries_stay _ w.in_default.not-Creation w.in_default.not-Removal) ∙ cell
