@@ -17,10 +17,7 @@ use search::Caller;
 fn is_missing(must_exist: bool, walk: Walk) -> bool
     ensures { result ≡ must_exist && absent (goal_of walk) }
 {
-    if must_exist {
-        return is_absent(walk);
-    }
-    false
+    must_exist && is_absent(walk)
 }
 
 // Another user has the end hold, and the caller is not root.
@@ -28,10 +25,7 @@ fn is_seen(words: &[u32], caller: Caller, walk: Walk) -> bool
     requires { Behind words.now caller walk }
     ensures { result ≡ end_held (unpack words.now) caller.process (goal_of walk) && not (root (unpack words.now) caller.process) }
 {
-    if is_root(caller) {
-        return false;
-    }
-    end_held(words, caller, walk)
+    !is_root(caller) && end_held(words, caller, walk)
 }
 
 pub fn look_at(words: &mut [u32], caller: Caller, walk: Walk, must_exist: bool) -> Answer

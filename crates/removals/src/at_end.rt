@@ -1,4 +1,4 @@
-// Call 13 behind its walk.
+// Calls 12 and 13 behind their walk.
 ghost use Rattle.goals.specs.Goals.{goal_of};
 ghost use Rattle.reaching.specs.Behind.{Behind};
 ghost use Rattle.model.specs.Calls.{rmdir_at};
@@ -15,6 +15,7 @@ use model::{ABSENT, Answer, HELD_BY_ANOTHER, NO_HOLD_ROW, NOT_EMPTY, WRONG_KIND}
 use plans::{lacks_room, plan_holds};
 use search::{Caller, has_any_entry};
 
+// stays: no plainer: rmdir_at and unlink_at end alike but for the call between that takes the holds; one body for both would take that call as a closure.
 pub fn rmdir_at(words: &mut [u32], caller: Caller, walk: Walk) -> Answer
     requires { Behind words.old caller walk }
     ensures { Meets words.old (rmdir_at (unpack words.old) caller.process (goal_of walk)) result words.new }

@@ -14,24 +14,24 @@ use Rattle.model.specs.Tables.{Entry, Node, no_entry, free_entry, free_node, nod
 use Rattle.model.specs.Sound.{each_used, entries_in_directories, entries_lead_to_nodes, leading_to, first_node_right, count_fits}
 use Rattle.model.specs.Words.{unpack}
 use Rattle.laws.proofs.AllRows.{all_both, all_alike}
-use Rattle.laws.proofs.Bools.{or_and}
+use Rattle.laws.proofs.Bools.{or_right, or_and}
 use Rattle.laws.proofs.Loops.{count_here, count_onward, count_done}
 use Rattle.rows.specs.Stands.{entry_row}
 use Rattle.rows.proofs.Parts.{entries_full}
-use Rattle.tree_rules.specs.Tallied.{leads, counters, Tallied}
+use Rattle.tree_rules.specs.Tallied.{leads, counted_fit, counters, Tallied}
 
 -- AN ENTRY
 
 module _ (nodes : List Node) (e : Entry) where
-  pub no_entry_there : {d : ℕ} → d ≡ e.place.directory → d ≡ 0 → true ≡ leads nodes e
+  pub no_entry_there : {d : ℕ} → d ≡ e.place.directory → d ≡ 0 → eqb d 0 ≡ leads nodes e
   unfolding free_entry
-  no_entry_there p z = rw (eq-eqb e.place.directory 0 (sym p ∙ z))
+  no_entry_there {d} p z = eq-eqb d 0 z ∙ rw (eq-eqb e.place.directory 0 (sym p ∙ z))
 
   module _ {d : ℕ} (p : d ≡ e.place.directory) (u : d ≡ 0 → ⊥) {k : ℕ} (q : k ≡ (node_at nodes d).kind) where
-    pub no_directory : (k ≡ 2 → ⊥) → false ≡ leads nodes e
+    pub no_directory : (k ≡ 2 → ⊥) → eqb k 2 ≡ leads nodes e
     unfolding free_entry is_directory
     no_directory n =
-        rw (ne_eqb e.place.directory 0 (λ z. u (p ∙ z)), ne_eqb (node_at nodes e.place.directory).kind 2 (λ z. n (q ∙ ap (λ x. (node_at nodes x).kind) p ∙ z)))
+        ne_eqb k 2 n ∙ rw (ne_eqb e.place.directory 0 (λ z. u (p ∙ z)), ne_eqb (node_at nodes e.place.directory).kind 2 (λ z. n (q ∙ ap (λ x. (node_at nodes x).kind) p ∙ z)))
 
     pub leads_where : k ≡ 2 → {m : ℕ} → m ≡ (node_at nodes e.node).kind → not (eqb m 0) ≡ leads nodes e
     unfolding free_entry free_node is_directory
@@ -129,6 +129,10 @@ counted w counts row t h = let e : row + 1 ≡ 1 + row = omega arith in t.right 
 
 -- A NODE'S COUNT
 
+pub root_passes : (x : Node) {row : ℕ} → row ≡ 0 → true ≡ counted_fit (1 + row) x
+unfolding count_fits
+root_passes x z = rw z (sym (or_right (free_node x) refl))
+
 module _ (x : Node) {k : ℕ} (p : k ≡ x.kind) where
   pub free_passes : (b : Bool) → k ≡ 0 → true ≡ (free_node x || b)
   unfolding free_node
@@ -137,10 +141,6 @@ module _ (x : Node) {k : ℕ} (p : k ≡ x.kind) where
   pub used_decides : {b r : Bool} → (k ≡ 0 → ⊥) → r ≡ b → r ≡ (free_node x || b)
   unfolding free_node
   used_decides n e = rw (ne_eqb x.kind 0 (λ z. n (p ∙ z))) e
-
-  pub root_fits : {row : ℕ} → row ≡ 0 → true ≡ count_fits (1 + row) x
-  unfolding count_fits
-  root_fits z = rw z
 
   module _ {row : ℕ} (n : row ≡ 0 → ⊥) {m : ℕ} (q : m ≡ x.count) where
     not_root : eqb (1 + row) 1 ≡ false
@@ -157,9 +157,9 @@ module _ (x : Node) {k : ℕ} (p : k ≡ x.kind) where
 -- THE FIRST NODE
 
 module _ (w : List ℕ) {k : ℕ} (p : k ≡ (node_at (unpack w).nodes 1).kind) where
-  pub first_no_directory : (k ≡ 2 → ⊥) → false ≡ first_node_right (unpack w)
+  pub first_no_directory : (k ≡ 2 → ⊥) → eqb k 2 ≡ first_node_right (unpack w)
   unfolding first_node_right is_directory
-  first_no_directory n = rw (ne_eqb (node_at (unpack w).nodes 1).kind 2 (λ z. n (p ∙ z)))
+  first_no_directory n = ne_eqb k 2 n ∙ rw (ne_eqb (node_at (unpack w).nodes 1).kind 2 (λ z. n (p ∙ z)))
 
   pub first_count : {m : ℕ} → k ≡ 2 → m ≡ (node_at (unpack w).nodes 1).count → eqb m 0 ≡ first_node_right (unpack w)
   unfolding first_node_right is_directory

@@ -1,35 +1,41 @@
--- A table tested row by row, the test told each row's number: what the loop keeps, and how it ends. Assumes nothing.
-use mathlib.Core.Path.{◌≡◌, refl, sym, ◌∙◌}
-use mathlib.Core.Bool.{Bool, true, false, not}
-use mathlib.Core.List.{List}
-use Prim.Native.Nat.{ℕ, ◌+◌, ◌≤◌, ◌<◌}
+-- Rows tested one by one: `all` over their numbers is the model's `all_from`, where the closure tests the row of its number. Assumes nothing.
+use mathlib.Core.Path.{◌≡◌, refl, sym, ap, ap₂, ◌∙◌}
+use mathlib.Core.Bool.{Bool, true, false, ◌&&◌}
+use mathlib.Core.List.{List, [], ◌∷◌}
+use Prim.Native.Nat.{ℕ, suc, ◌+◌}
 use native.Mathlib.Omega.{arith}
-use lib.ListN.{length, get_or, drop}
+use denote.Param.Members.{Mut}
+use lib.ListN.{length, get_or}
+use Rattle.std.specs.declared.ops.Range.{Range}
+use Rattle.std.specs.Prelude.{Option, MatchOption}
+use Rattle.std.specs.Fn.{Called}
+use Rattle.std.specs.Iterator.{YieldsThen}
+use Rattle.std.specs.List.{FoldsTo, list_all, range_with_len}
+use Rattle.std.proofs.iter.Yields.{nat_range_steps}
+use Rattle.std.proofs.lemmas.Iterator.{YieldsList-from_range}
+use Rattle.std.proofs.lemmas.Iterator.Search.{all_from_yields_List}
 use Rattle.model.specs.Lists.{all_from}
-use Rattle.laws.proofs.Bools.{not_true, not_false}
-use Rattle.laws.proofs.Loops.{all_from_failed, all_from_onward, all_from_passed}
 
--- of n rows, numbered from 1 on, those before `row` have passed
-pub record Passed {A : Type 0} (test : ℕ → A → Bool) (d : A) (rows : List A) (n row : ℕ) : Type 0 where
-  pub inside : row ≤ n
-  pub long : length rows ≡ n
-  pub rest : all_from (1 + row) test (drop row rows) ≡ all_from 1 test rows
+module _ {A : Type 0} (test : ℕ → A → Bool) (d : A) where
+  numbered : (h : ℕ → Bool) (a : ℕ) (rows : List A) → ((k : ℕ) → h (a + k) ≡ test (1 + (a + k)) (get_or rows k d))
+      → list_all h (range_with_len a (length rows)) ≡ all_from (1 + a) test rows
+  unfolding all_from
+  numbered h a [] e = refl
+  numbered h a (x ∷ rows) e =
+      let here : a + 0 ≡ a = omega arith in
+      let next : 1 + (a + 1) ≡ suc (1 + a) = omega arith in
+      ap₂ ◌&&◌ (ap h (sym here) ∙ e 0 ∙ ap (λ n. test (1 + n) x) here)
+      (numbered h (a + 1) rows (λ k. let m : a + 1 + k ≡ a + suc k = omega arith in ap h m ∙ e (suc k) ∙ ap (λ n. test (1 + n) (get_or rows k d)) (sym m))
+      ∙ ap (λ n. all_from n test rows) next)
 
-pub none_passed : {A : Type 0} (test : ℕ → A → Bool) (d : A) (rows : List A) (n : ℕ) → length rows ≡ n → Passed test d rows n 0
-none_passed test d rows n l = record { inside = omega arith; long = l; rest = refl }
-
-module _ {A : Type 0} {test : ℕ → A → Bool} {d : A} {rows : List A} {n row : ℕ} (p : Passed test d rows n row) where
-  module _ (there : row < n) {r : Bool} (e : r ≡ test (1 + row) (get_or rows row d)) where
-    pub row_fails : not r ≡ true → false ≡ all_from 1 test rows
-    row_fails f = all_from_failed test d rows 1 row (omega (arith, p.long)) (sym e ∙ not_true r f) p.rest
-
-    pub row_passes : not r ≡ false → Passed test d rows n (row + 1)
-    row_passes f =
-        record {
-          inside = omega arith;
-          long = p.long;
-          rest = all_from_onward test d rows 1 row (omega (arith, p.long)) (sym e ∙ not_false r f) p.rest;
-        }
-
-  pub all_pass : n ≤ row → true ≡ all_from 1 test rows
-  all_pass h = all_from_passed test d rows 1 row (omega (arith, p.long)) p.rest
+  pub all_gives : {F : Type 0} (rows : List A) {s : Range ℕ} (starts : s.start ≡ 0) (ends : s.end ≡ length rows) {g : Mut F (ℕ × Unit {0}) Bool} (u : Range ℕ)
+      {f : F} (r : Bool)
+      → (xs : List ℕ) × (o : Option ℕ) × (j : F) × YieldsThen nat_range_steps s xs o u × FoldsTo (λ p x q. Called g p (x, tt) true q) f xs j
+      × MatchOption o (r ≡ true) (λ x. (r ≡ false) × ((h : F) × Called g j (x, tt) false h))
+      → ((x : ℕ) (b : Bool) (q : F) → Called g f (x, tt) b q → (q ≡ f) × (b ≡ test (1 + x) (get_or rows x d)))
+      → r ≡ all_from 1 test rows
+  all_gives rows {s} starts ends u {f} r ran says =
+      all_from_yields_List (λ x. test (1 + x) (get_or rows x d)) u f r ran (YieldsList-from_range s.start s.end (length rows) refl (omega arith)) says
+      ∙ ap (λ a. list_all (λ x. test (1 + x) (get_or rows x d)) (range_with_len a (length rows))) starts
+      ∙ numbered (λ x. test (1 + x) (get_or rows x d)) 0 rows
+      (λ k. let m : 0 + k ≡ k = omega arith in ap (λ n. test (1 + (0 + k)) (get_or rows n d)) m)

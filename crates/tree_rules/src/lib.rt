@@ -20,32 +20,19 @@ pub fn tree_right(words: &[u32]) -> bool
     requires { Stands words.now }
     ensures { result ≡ tree_rules (unpack words.now) }
 {
-    if !entries_lead(words) {
-        return false;
-    }
-    if !first_right(words) {
+    if !entries_lead(words) || !first_right(words) {
         return false;
     }
     let mut counts = [0u16; COUNTS];
     tally(words, &mut counts);
-    if !all_counts_right(words, &counts) {
-        return false;
-    }
-    all_counts_fit(words)
+    all_counts_right(words, &counts) && all_counts_fit(words)
 }
 
 fn entries_lead(words: &[u32]) -> bool
     requires { Stands words.now }
     ensures { result ≡ (entries_in_directories (unpack words.now) && entries_lead_to_nodes (unpack words.now)) }
 {
-    let mut row = 0;
-    while row < ENTRY_ROWS {
-        if !entry_leads(words, row) {
-            return false;
-        }
-        row += 1;
-    }
-    true
+    (0..ENTRY_ROWS).all(|row| entry_leads(words, row))
 }
 
 fn entry_leads(words: &[u32], row: usize) -> bool
@@ -53,46 +40,28 @@ fn entry_leads(words: &[u32], row: usize) -> bool
     ensures { result ≡ leads (unpack words.now).nodes (entry_row words.now row) }
 {
     let directory = entry_directory(words, row);
-    if directory == 0 {
-        return true;
-    }
-    if node_kind(words, directory) != DIRECTORY {
-        return false;
-    }
-    node_kind(words, entry_node(words, row)) != 0
+    directory == 0
+        || (node_kind(words, directory) == DIRECTORY
+            && node_kind(words, entry_node(words, row)) != 0)
 }
 
 fn first_right(words: &[u32]) -> bool
     requires { Stands words.now }
     ensures { result ≡ first_node_right (unpack words.now) }
 {
-    if node_kind(words, ROOT) != DIRECTORY {
-        return false;
-    }
-    node_count(words, ROOT) == 0
-}
-
-fn one_more(count: u16) -> u16
-    requires { count < entry_rows }
-    ensures { result ≡ count + 1 }
-{
-    count + 1
+    node_kind(words, ROOT) == DIRECTORY && node_count(words, ROOT) == 0
 }
 
 fn tally(words: &[u32], counts: &mut [u16; COUNTS])
     requires { (Stands words.now) × (counts.old ≡ replicate counters 0) }
     ensures { Tallied words.now counts.new }
 {
-    let mut row = 0;
-    while row < ENTRY_ROWS {
+    for row in 0..ENTRY_ROWS {
         let node = wide(entry_node(words, row));
         // the many free rows lead to no node, and would all wait for the one count
-        if node != 0 {
-            if node < COUNTS {
-                counts[node] = one_more(counts[node]);
-            }
+        if node != 0 && node < COUNTS {
+            counts[node] += 1;
         }
-        row += 1;
     }
 }
 
@@ -100,53 +69,33 @@ fn all_counts_right(words: &[u32], counts: &[u16; COUNTS]) -> bool
     requires { (Stands words.now) × (Tallied words.now counts.now) }
     ensures { result ≡ counts_right (unpack words.now) }
 {
-    let mut row = 0;
-    while row < NODE_ROWS {
-        if !count_right(words, counts, row) {
-            return false;
-        }
-        row += 1;
-    }
-    true
+    (0..NODE_ROWS).all(|row| count_right(words, counts, row))
 }
 
 fn count_right(words: &[u32], counts: &[u16; COUNTS], row: usize) -> bool
     requires { (Stands words.now) × ((Tallied words.now counts.now) × (row < node_rows)) }
     ensures { result ≡ counted_right (unpack words.now).entries (1 + row) (node_row words.now row) }
 {
-    if kind_in(words, row) == 0 {
-        return true;
-    }
-    count_in(words, row) == counts[row + 1]
+    kind_in(words, row) == 0 || count_in(words, row) == counts[row + 1]
 }
 
 fn all_counts_fit(words: &[u32]) -> bool
     requires { Stands words.now }
     ensures { result ≡ counts_fit (unpack words.now) }
 {
-    let mut row = 0;
-    while row < NODE_ROWS {
-        if !count_fits(words, row) {
-            return false;
-        }
-        row += 1;
-    }
-    true
+    (0..NODE_ROWS).all(|row| count_fits(words, row))
 }
 
 fn count_fits(words: &[u32], row: usize) -> bool
     requires { (Stands words.now) × (row < node_rows) }
     ensures { result ≡ counted_fit (1 + row) (node_row words.now row) }
 {
-    let kind = kind_in(words, row);
-    if kind == 0 {
-        return true;
-    }
     if row == 0 {
         return true;
     }
-    if kind == DIRECTORY {
-        return count_in(words, row) == 1;
+    match kind_in(words, row) {
+        0 => true,
+        DIRECTORY => count_in(words, row) == 1,
+        _ => count_in(words, row) >= 1,
     }
-    1 <= count_in(words, row)
 }

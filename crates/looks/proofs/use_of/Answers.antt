@@ -2,9 +2,6 @@
 use Rattle.model.specs.Calls.{use_of}
 use Rattle.looks.proofs.use_of.Goals as goal
 
-pub look_along-requires : goal.look_along-requires
-look_along-requires c = c.requires
-
 pub returns : goal.returns
 unfolding use_of
 returns c = c.look_along.ensures
