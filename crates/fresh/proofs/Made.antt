@@ -8,7 +8,7 @@ use Rattle.model.specs.Refusals.{refused, granted, ◌>>◌}
 use Rattle.model.specs.Tables.{a_directory}
 use Rattle.model.specs.Words.{word_count, first_node_word}
 use Rattle.model.specs.Serve.{made_fresh, fresh_words, computing}
-use Rattle.fresh.specs.declared.Prepared.TheVariants.{Ready, Refused}
+use Rattle.std.proofs.Common.{Ok, Err}
 use Rattle.fresh.specs.Prepared.{answer_of, words_after, Prepares}
 
 -- the first word of a directory to which no entry leads
@@ -27,7 +27,7 @@ refused_of_length : (w : List ℕ) → (length w ≡ word_count → ⊥) → mad
 unfolding made_fresh ◌>>◌
 refused_of_length w h = simp (ne_eqb (length w) word_count h)
 
-pub prepares : (w : List ℕ) {v : List ℕ} → length w ≡ word_count → v ≡ replicate (length w) 0 → Prepares w (made_fresh w) Ready (set v first_node_word empty_directory)
+pub prepares : (w : List ℕ) {v : List ℕ} → length w ≡ word_count → v ≡ replicate (length w) 0 → Prepares w (made_fresh w) (Ok tt) (set v first_node_word empty_directory)
 prepares w h e =
     let m = made_of_length w h in
     record {
@@ -35,5 +35,5 @@ prepares w h e =
       words = ap (λ l. set l first_node_word empty_directory) (e ∙ ap (λ n. replicate n 0) h) ∙ fresh_words_are ∙ ap (words_after w) (sym m);
     }
 
-pub refuses : (w : List ℕ) → (length w ≡ word_count → ⊥) → Prepares w (made_fresh w) (Refused 1) w
+pub refuses : (w : List ℕ) → (length w ≡ word_count → ⊥) → Prepares w (made_fresh w) (Err 1) w
 refuses w h = let m = refused_of_length w h in record { answer = ap answer_of (sym m); words = ap (words_after w) (sym m) }

@@ -11,12 +11,6 @@ use rows::{DIRECTORY, NODES_START, TOP_UNIT, WORD_COUNT};
 // stays: no plainer, a constant's value can't call `u32::from`.
 const EMPTY_DIRECTORY: u32 = DIRECTORY as u32 * TOP_UNIT;
 
-#[derive(Clone, Copy)]
-pub enum Prepared {
-    Ready,
-    Refused(u8),
-}
-
 fn clear_all(words: &mut [u32])
     ensures { words.new ≡ replicate (length words.old) 0 }
 {
@@ -24,13 +18,13 @@ fn clear_all(words: &mut [u32])
 }
 
 // Makes the words fresh tables; a slice of another length is refused and left as it was.
-pub fn fresh(words: &mut [u32]) -> Prepared
+pub fn fresh(words: &mut [u32]) -> Result<(), u8>
     ensures { Prepares words.old (made_fresh words.old) result words.new }
 {
     if words.len() != WORD_COUNT {
-        return Prepared::Refused(UNSOUND);
+        return Err(UNSOUND);
     }
     clear_all(words);
     words[NODES_START] = EMPTY_DIRECTORY;
-    Prepared::Ready
+    Ok(())
 }
