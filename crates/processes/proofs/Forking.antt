@@ -5,6 +5,7 @@ use mathlib.Core.Logic.{◌≢◌}
 use mathlib.Core.List.{List}
 use Prim.Native.Nat.{ℕ}
 use lib.Dec.{ltb}
+use Rattle.std.specs.Prelude.{Option, Some, None}
 use Rattle.model.specs.Lists.{count}
 use Rattle.model.specs.Tables.{Tables, Hold, free_hold, listed, user_of, with_holds, with_processes}
 use Rattle.model.specs.Words.{unpack}
@@ -13,8 +14,6 @@ use Rattle.model.specs.Calls.{unlisted, add_process}
 use Rattle.laws.proofs.Bools.{clash, not_false}
 use Rattle.rows.specs.Stands.{Becomes}
 use Rattle.search.specs.declared.Caller.{Caller}
-use Rattle.search.specs.declared.Listing.{Listing}
-use Rattle.search.specs.declared.Listing.TheVariants.{Unlisted, Listed}
 use Rattle.search.specs.Callers.{listing_of}
 use Rattle.search.proofs.Callers.{told_unlisted, told_listed, told_caller}
 use Rattle.plans.proofs.Copying.{copies_count}
@@ -28,12 +27,12 @@ module _ (w : List ℕ) where
       ap (λ x. ltb x m) e ∙ ap (ltb (count free_hold (unpack w).holds)) (f ∙ sym (copies_count parent child (unpack w).holds))
 
 -- fork's 4, and the parent's user
-module _ (t : Tables) (p : ℕ) {r : Listing} (e : r ≡ listing_of t.processes p) where
-  pub told_4 : r ≡ Unlisted → true ≡ unlisted t p
+module _ (t : Tables) (p : ℕ) {r : Option Caller} (e : r ≡ listing_of t.processes p) where
+  pub told_4 : r ≡ None → true ≡ unlisted t p
   unfolding unlisted
   told_4 u = ap not (sym (told_unlisted t.processes p e u))
 
-  module _ {c : Caller} (s : r ≡ Listed c) where
+  module _ {c : Caller} (s : r ≡ Some c) where
     pub told_not_4 : false ≡ unlisted t p
     unfolding unlisted
     told_not_4 = ap not (sym (told_listed t.processes p e s))

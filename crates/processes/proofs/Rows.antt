@@ -4,47 +4,39 @@ use mathlib.Core.List.{List}
 use Prim.Native.Nat.{ℕ, ◌+◌, ◌≤◌, ◌<◌}
 use native.Mathlib.Omega.{arith}
 use borrow.Author.Tests.{eq-eqb, ne_eqb}
-use lib.Dec.{eqb}
-use lib.ListN.{length, set}
-use lib.Seq.{set_out}
-use Rattle.model.specs.Lists.{first}
+use lib.ListN.{set}
+use Rattle.std.specs.Prelude.{Some, None}
 use Rattle.model.specs.Tables.{Tables, no_process, free_process, is_process, with_processes, process_rows}
 use Rattle.model.specs.Words.{unpack}
-use Rattle.model.specs.Calls.{no_free_process, add_process, drop_process}
+use Rattle.model.specs.Calls.{add_process, drop_process}
 use Rattle.laws.specs.Clears.{clear_at}
 use Rattle.laws.proofs.Clears.{clears, leaves, clear_step}
-use Rattle.laws.proofs.Loops.{clear_from, clear_start, clear_done, put_first, none_free}
+use Rattle.laws.proofs.Loops.{clear_from, clear_start, clear_done}
 use Rattle.rows.specs.Stands.{Stands, Becomes, process_row}
 use Rattle.rows.proofs.Parts.{processes_full}
+use Rattle.search.specs.Rows.{first_row}
+use Rattle.search.proofs.Rows.{put_found, put_missing}
 use Rattle.holds.proofs.Towards.{Towards, begin, go_on, arrive}
 
 module _ (w : List ℕ) where
-  pub no_process_row : {k : ℕ} → k ≡ first free_process 0 (unpack w).processes → eqb k process_rows ≡ no_free_process (unpack w)
-  unfolding no_free_process
-  no_process_row e = none_free free_process (unpack w).processes e (processes_full w)
-
-  module _ (p user : ℕ) {k : ℕ} (e : k ≡ first free_process 0 (unpack w).processes) where
-    pub process_added : {v : List ℕ} → Becomes v (with_processes (unpack w) (set (unpack w).processes k (record { number = p; user = user })))
+  module _ (p user : ℕ) where
+    pub process_added : {k : ℕ} → Some k ≡ first_row free_process (unpack w).processes
+        → {v : List ℕ} → Becomes v (with_processes (unpack w) (set (unpack w).processes k (record { number = p; user = user })))
         → Becomes v (with_processes (unpack w) (add_process p user (unpack w).processes))
     unfolding add_process
-    process_added b =
+    process_added e b =
         record {
           stands = b.stands;
-          tables = b.tables
-              ∙ ap (with_processes (unpack w))
-              (ap (λ n. set (unpack w).processes n (record { number = p; user = user })) e
-              ∙ sym (put_first free_process (record { number = p; user = user }) (unpack w).processes));
+          tables = b.tables ∙ ap (with_processes (unpack w)) (sym (put_found free_process (unpack w).processes (record { number = p; user = user }) e));
         }
 
-    pub process_not_added : Stands w → process_rows ≤ k → Becomes w (with_processes (unpack w) (add_process p user (unpack w).processes))
+    pub process_not_added : None ≡ first_row free_process (unpack w).processes → Stands w
+        → Becomes w (with_processes (unpack w) (add_process p user (unpack w).processes))
     unfolding add_process
-    process_not_added s h =
-        let m : length (unpack w).processes ≤ first free_process 0 (unpack w).processes = omega (arith, processes_full w) in
+    process_not_added e s =
         record {
           stands = s;
-          tables = ap (with_processes (unpack w))
-              (sym (put_first free_process (record { number = p; user = user }) (unpack w).processes
-              ∙ set_out (unpack w).processes (first free_process 0 (unpack w).processes) (record { number = p; user = user }) m));
+          tables = ap (with_processes (unpack w)) (sym (put_missing free_process (unpack w).processes (record { number = p; user = user }) e));
         }
 
   module _ (p row : ℕ) {k : ℕ} (e : k ≡ (process_row w row).number) where

@@ -10,7 +10,7 @@ ghost use Rattle.processes.specs.ProcessCall.{process_call};
 use super::{add_process, lacks_process_row};
 use model::{ALREADY_LISTED, Answer, NO_HOLD_ROW, NO_PROCESS_ROW, NOT_LISTED};
 use plans::{copy_holds, count_of_process};
-use search::{Listing, find_caller, free_hold_rows, is_listed};
+use search::{find_caller, free_hold_rows, is_listed};
 
 fn lacks_room_for_copies(words: &[u32], parent: u16, child: u16) -> bool
     requires { Stands words.now }
@@ -24,7 +24,7 @@ pub fn fork(words: &mut [u32], process: u16, child: u16) -> Answer
     requires { (Stands words.old) × ((1 ≤ process) × (1 ≤ child)) }
     ensures { Meets words.old (fork (unpack words.old) (process_call 2 process child)) result words.new }
 {
-    let Listing::Listed(caller) = find_caller(words, process) else {
+    let Some(caller) = find_caller(words, process) else {
         return Answer::Refused(NOT_LISTED);
     };
     if is_listed(words, child) {

@@ -28,15 +28,14 @@ pub fn lacks_process_row(words: &[u32]) -> bool
     requires { Stands words.now }
     ensures { result ≡ no_free_process (unpack words.now) }
 {
-    free_process_row(words) == PROCESS_ROWS
+    free_process_row(words).is_none()
 }
 
 pub fn add_process(words: &mut [u32], process: u16, user: u16)
     requires { (Stands words.old) × (1 ≤ process) }
     ensures { Becomes words.new (with_processes (unpack words.old) (add_process process user (unpack words.old).processes)) }
 {
-    let row = free_process_row(words);
-    if row < PROCESS_ROWS {
+    if let Some(row) = free_process_row(words) {
         set_process(words, row, process, user);
     }
 }

@@ -7,7 +7,7 @@ use native.Mathlib.Omega.{arith}
 use borrow.Author.Tests.{lt-ltb, le-ltb}
 use lib.ListN.{length, set}
 use lib.Seq.{set_out}
-use Rattle.std.specs.Prelude.{Option, Some, None, is_none, is_some}
+use Rattle.std.specs.Prelude.{Option, Some, None, is_some}
 use Rattle.model.specs.Lists.{any, first, put}
 use Rattle.laws.proofs.Loops.{any_first, none_first, put_first}
 use Rattle.search.specs.Rows.{first_row}
@@ -41,12 +41,20 @@ module _ {A : Type 0} (f : A → Bool) (rows : List A) where
       go false t = refl
       go true t = let no : None ≡ Some (first f 0 rows) = e ∙ some_is t in cc
 
-  pub found_lacks : {r : Option ℕ} → r ≡ first_row f rows → is_none r ≡ not (any f rows)
-  found_lacks {r} e = go (any f rows) refl
+  pub found_any : {r : Option ℕ} → r ≡ first_row f rows → is_some r ≡ any f rows
+  found_any {r} e = go (any f rows) refl
     where
-      go : (b : Bool) → any f rows ≡ b → is_none r ≡ not b
-      go true t = ap is_none (e ∙ some_is t)
-      go false t = ap is_none (e ∙ none_is t)
+      go : (b : Bool) → any f rows ≡ b → is_some r ≡ b
+      go true t = ap is_some (e ∙ some_is t)
+      go false t = ap is_some (e ∙ none_is t)
+
+  -- the same, as `is_none` says it
+  pub found_lacks : {r : Option ℕ} → r ≡ first_row f rows → {b : Bool} → is_some r ≡ not b → b ≡ not (any f rows)
+  found_lacks e {b} h = go b (sym h ∙ found_any e)
+    where
+      go : (b : Bool) → not b ≡ any f rows → b ≡ not (any f rows)
+      go true t = ap not t
+      go false t = ap not t
 
   -- a new row goes into the one that is found free
   pub put_found : (new : A) {k : ℕ} → Some k ≡ first_row f rows → put f new rows ≡ set rows k new
@@ -54,10 +62,3 @@ module _ {A : Type 0} (f : A → Bool) (rows : List A) where
 
   pub put_missing : (new : A) → None ≡ first_row f rows → put f new rows ≡ rows
   put_missing new e = put_first f new rows ∙ set_out rows (first f 0 rows) new (omega (arith, none_first f rows (found_none e)))
-
-  pub found_any : {r : Option ℕ} → r ≡ first_row f rows → is_some r ≡ any f rows
-  found_any {r} e = go (any f rows) refl
-    where
-      go : (b : Bool) → any f rows ≡ b → is_some r ≡ b
-      go true t = ap is_some (e ∙ some_is t)
-      go false t = ap is_some (e ∙ none_is t)

@@ -1,6 +1,10 @@
--- `processes::lacks_process_row` meets its contract: the search ends behind the last row. Assumes nothing.
-use Rattle.processes.proofs.Rows.{no_process_row}
+-- `processes::lacks_process_row` meets its contract: no row is found free. Assumes nothing.
+use Rattle.model.specs.Calls.{no_free_process}
+use Rattle.model.specs.Tables.{free_process}
+use Rattle.model.specs.Words.{unpack}
+use Rattle.search.proofs.Rows.{found_lacks}
 use Rattle.processes.proofs.lacks_process_row.Goals as goal
 
 pub returns : goal.returns
-returns c = no_process_row c.args.words.now c.free_process_row.ensures
+unfolding no_free_process
+returns c = found_lacks free_process (unpack c.args.words.now).processes c.free_process_row.ensures c.is_none.ensures
