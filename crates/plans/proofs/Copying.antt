@@ -15,7 +15,7 @@ use Rattle.model.specs.Words.{unpack}
 use Rattle.model.specs.Holds.{of_process, add_holds, copy_for, copies}
 use Rattle.laws.proofs.Each.{Each, each_weaker}
 use Rattle.laws.proofs.Kept.{keep_passing, keep_failing, length_keep, keep_drop_put}
-use Rattle.laws.proofs.Loops.{rest_at, count_here, count_onward}
+use Rattle.laws.proofs.Loops.{rest_at}
 use Rattle.laws.proofs.Words.{unpacked_fits, name_back as name_comes_back}
 use Rattle.rows.specs.declared.Block.{Block}
 use Rattle.rows.specs.declared.HoldRow.{HoldRow}
@@ -32,25 +32,6 @@ use Rattle.holds.proofs.Towards.{Towards, begin, go_on, arrive}
 pub copies_count : (parent child : ℕ) (holds : List Hold) → length (copies parent child holds) ≡ count (of_process parent) holds
 unfolding copies
 copies_count parent child holds = length-map (keep (of_process parent) holds) (copy_for child) ∙ length_keep (of_process parent) holds
-
--- COUNTING: the count so far and that of the rows left give the whole
-
-abbrev pub Counted : List ℕ → ℕ → ℕ → ℕ → Type 0
-Counted w p found i =
-    (i ≤ hold_rows) × ((found ≤ i) × (found + count (of_process p) (drop i (unpack w).holds) ≡ count (of_process p) (unpack w).holds))
-
-module _ (w : List ℕ) (p found i : ℕ) {k m : ℕ} (below : i < hold_rows) (e : k ≡ (hold_row w i).process) (so_far : Counted w p found i) where
-  pub one_more : k ≡ p → m ≡ found + 1 → Counted w p m (i + 1)
-  unfolding of_process
-  one_more q r =
-      let here = eq-eqb (hold_row w i).process p (sym e ∙ q) in
-      (omega arith, (omega arith, omega (arith, count_here (of_process p) no_hold (unpack w).holds i found (omega (arith, holds_full w)) here so_far.1.1)))
-
-  pub none_more : (k ≡ p → ⊥) → m ≡ found → Counted w p m (i + 1)
-  unfolding of_process
-  none_more n r =
-      let here = ne_eqb (hold_row w i).process p (λ q. n (e ∙ q)) in
-      (omega arith, (omega arith, omega (arith, count_onward (of_process p) no_hold (unpack w).holds i found (omega (arith, holds_full w)) here so_far.1.1)))
 
 -- ONE ROW
 

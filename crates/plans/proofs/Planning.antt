@@ -1,15 +1,16 @@
 -- The plan of holds to take: each row of it may be written, and all of them are what the model takes. Assumes nothing.
 use mathlib.Core.Path.{◌≡◌, refl, sym, ap, subst, ◌∙◌}
-use mathlib.Core.Bool.{Bool, true, false, ◌||◌}
+use mathlib.Core.Bool.{Bool, true, false, ◌&&◌, ◌||◌}
 use mathlib.Core.List.{List, [], ◌∷◌, ◌++◌, map, map-append, append-nil}
 use mathlib.Core.Option.{Option, none, some}
 use Prim.Native.Nat.{ℕ, ◌+◌, ◌≤◌, ◌<◌}
 use native.Mathlib.Omega.{arith}
 use native.Mathlib.Numerals.{add-one}
-use borrow.Author.Tests.{le-ltb, eq-eqb, ne_eqb}
-use lib.Dec.{ltb}
-use lib.ListN.{length, get_or, set, take, drop, replicate, length-append, length-take, length-set, length-map, drop_of_length-le, get_or-map}
-use lib.Seq.{take_all, take-suc, take-suc-set, get_or-take, length-take-le, set_out}
+use borrow.Author.Tests.{le-ltb}
+use lib.Dec.{eqb, ltb}
+use Rattle.std.specs.List.{list_any}
+use lib.ListN.{length, get_or, set, take, drop, replicate, length-append, length-take, length-set, length-map, drop_of_length-le}
+use lib.Seq.{take_all, take-suc, take-suc-set, length-take-le, set_out}
 use Rattle.model.specs.Lists.{filled, any, count, first, put, put_all}
 use Rattle.model.specs.Tables as model_tables
 use Rattle.model.specs.Tables.{Tables, Hold, hold_rows, free_hold, end_role, element_role, same_place, with_holds}
@@ -17,11 +18,11 @@ use Rattle.model.specs.Sound.{same_hold}
 use Rattle.model.specs.Words.{pack_name, unpack_name, pack_hold, unpack_hold, bits, bytes, words, unpack}
 use Rattle.model.specs.Holds.{hold_by, end_wanted, wanted, lacking, no_room, add_holds}
 use Rattle.laws.proofs.Bools.{or_right, neither}
-use Rattle.laws.proofs.Each.{each_at, each_set, each_replicate}
+use Rattle.laws.proofs.Each.{Each, each_head, each_tail, each_at, each_set, each_take, each_replicate}
 use Rattle.laws.proofs.Loops.{rest_at, put_first}
 use Rattle.laws.proofs.Members.{each_in, at_in}
 use Rattle.rows.specs.declared.HoldRow.{HoldRow}
-use Rattle.rows.specs.Blocks.{Named, name_of, place_of, same_block}
+use Rattle.rows.specs.Blocks.{Named, name_of, place_of}
 use Rattle.rows.specs.Rows.{hold_of}
 use Rattle.rows.specs.Stands.{Stands, Becomes}
 use Rattle.rows.proofs.Blocks.{same_blocks_same_names}
@@ -32,33 +33,24 @@ use Rattle.goals.specs.declared.Stop.TheVariants.{Entry}
 use Rattle.goals.specs.declared.Walk.{Walk}
 use Rattle.goals.specs.Goals.{goal_of, place_at, blank, PlaceNamed, WalkNamed}
 use Rattle.plans.specs.declared.Plan.{Plan}
-use Rattle.plans.specs.Plans.{Fine, blank_row, plan_room, Planned, planned_row, planned_holds, Wished, PlaceUsed, StopUsed, WalkUsed, wanted_row, element_holds, PlanFor}
+use Rattle.plans.specs.Plans.{Fine, blank_row, plan_room, Planned, same_rows, planned_holds, Wished, PlaceUsed, StopUsed, WalkUsed, wanted_row, element_holds, PlanFor}
 use Rattle.plans.proofs.Lacking.{any_append, had_already, had_not, lacking_append}
 use Rattle.holds.proofs.Towards.{Towards, begin, go_on, arrive}
 
 -- TWO HOLDS AS THE CODE HAS THEM
 
-module _ (a b : HoldRow) where
-  pub other_process : (a.process ≡ b.process → ⊥) → false ≡ same_hold (hold_of a) (hold_of b)
-  unfolding same_hold hold_of
-  other_process n = simp (ne_eqb a.process b.process n)
+pub same_rows_same_holds : (a b : HoldRow) → Named a.name → Named b.name → same_rows a b ≡ same_hold (hold_of a) (hold_of b)
+unfolding same_hold hold_of same_place place_of
+same_rows_same_holds a b f g =
+    ap (λ x. eqb a.process b.process && eqb a.role b.role && (eqb a.directory b.directory && x)) (same_blocks_same_names a.name b.name f g)
 
-  module _ (p : a.process ≡ b.process) where
-    pub other_role : (a.role ≡ b.role → ⊥) → false ≡ same_hold (hold_of a) (hold_of b)
-    unfolding same_hold hold_of
-    other_role n = simp (eq-eqb a.process b.process p, ne_eqb a.role b.role n)
-
-    module _ (r : a.role ≡ b.role) where
-      pub other_directory : (a.directory ≡ b.directory → ⊥) → false ≡ same_hold (hold_of a) (hold_of b)
-      unfolding same_hold hold_of same_place place_of
-      other_directory n = simp (eq-eqb a.process b.process p, eq-eqb a.role b.role r, ne_eqb a.directory b.directory n)
-
-      pub names_decide : Named a.name → Named b.name → {c : Bool} → a.directory ≡ b.directory → c ≡ same_block a.name b.name
-          → c ≡ same_hold (hold_of a) (hold_of b)
-      unfolding same_hold hold_of same_place place_of
-      names_decide f g d e =
-          simp (eq-eqb a.process b.process p, eq-eqb a.role b.role r, eq-eqb a.directory b.directory d)
-          (e ∙ same_blocks_same_names a.name b.name f g)
+-- a test of rows for one hold
+pub any_same : (h : HoldRow) → Named h.name → (rows : List HoldRow) → Each Fine rows → list_any (same_rows h) rows ≡ any (same_hold (hold_of h)) (map hold_of rows)
+unfolding any
+any_same h n [] e = refl
+any_same h n (r ∷ rows) e =
+    ap (λ b. b || list_any (same_rows h) rows) (same_rows_same_holds h r n (each_head e).name)
+    ∙ ap (λ b. same_hold (hold_of h) (hold_of r) || b) (any_same h n rows (each_tail e))
 
 -- THE ROWS OF A PLAN
 
@@ -66,8 +58,8 @@ pub blank_fine : Fine blank_row
 unfolding Named name_of hold_of place_of pack_hold unpack_hold free_hold pack_name unpack_name words bytes bits filled
 blank_fine = record { good = record { words = refl; fits = refl }; name = refl; role = omega arith }
 
-pub fine_row : (p : Plan) → Planned p → (i : ℕ) {r : HoldRow} → r ≡ planned_row p i → Fine r
-fine_row p ok i e = subst Fine (sym e) (each_at ok.fine blank_fine i)
+pub fine_rows : (p : Plan) → Planned p → Each Fine (take p.count p.rows)
+fine_rows p ok = each_take p.count ok.fine
 
 module _ (p : Plan) (ok : Planned p) where
   rows_long : length (take p.count p.rows) ≡ p.count
@@ -76,15 +68,6 @@ module _ (p : Plan) (ok : Planned p) where
   pub planned_long : length (planned_holds p) ≡ p.count
   unfolding planned_holds
   planned_long = length-map (take p.count p.rows) hold_of ∙ rows_long
-
-  pub planned_at : (i : ℕ) → i < p.count → get_or (planned_holds p) i (hold_of blank_row) ≡ hold_of (planned_row p i)
-  unfolding planned_holds
-  planned_at i h = get_or-map hold_of (take p.count p.rows) i blank_row ∙ ap hold_of (get_or-take p.count p.rows i blank_row h)
-
-  -- what a test says of row i
-  pub planned_test : (f : Hold → Bool) (i : ℕ) {r : HoldRow} {b c : Bool} → i < p.count → r ≡ planned_row p i → b ≡ f (hold_of r) → b ≡ c
-      → f (get_or (planned_holds p) i (hold_of blank_row)) ≡ c
-  planned_test f i h q e t = ap f (planned_at i h ∙ ap hold_of (sym q)) ∙ sym e ∙ t
 
   pub room_is : (t : Tables) {n : ℕ} → n ≡ count free_hold t.holds → ltb n p.count ≡ no_room t (planned_holds p)
   unfolding no_room
@@ -170,32 +153,28 @@ unfolding element_holds
 elements_few p n elements =
     omega (arith, length-map (map place_at (take n elements)) (hold_by p element_role), length-map (take n elements) place_at, taken_few n elements)
 
-module _ (p n : ℕ) (elements : List Place) (l : n ≤ length elements) where
-  elements_long : length (element_holds p n elements) ≡ n
+module _ (p : ℕ) (elements : List Place) (have : List Hold) where
+  pub gather_begin : {none : HoldRow} → none ≡ blank_row → PlanFor have (element_holds p 0 elements) (record { count = 0; rows = replicate plan_room none })
   unfolding element_holds
-  elements_long =
-      length-map (map place_at (take n elements)) (hold_by p element_role) ∙ length-map (take n elements) place_at ∙ length-take-le n elements l
+  gather_begin e = plan_none have e
 
-  element_at : (i : ℕ) → i < n
-      → get_or (element_holds p n elements) i (hold_by p element_role (place_at blank)) ≡ hold_by p element_role (place_at (get_or elements i blank))
+  pub gather_step : (i : ℕ) {q r : Plan} {h : HoldRow} → i < length elements → PlanFor have (element_holds p i elements) q
+      → h ≡ wanted_row p element_role (get_or elements i blank) → Wished have q h r → PlanFor have (element_holds p (i + 1) elements) r
   unfolding element_holds
-  element_at i h =
-      get_or-map (hold_by p element_role) (map place_at (take n elements)) i (place_at blank)
-      ∙ ap (hold_by p element_role) (get_or-map place_at (take n elements) i blank ∙ ap place_at (get_or-take n elements i blank h))
+  gather_step i {r = r} {h = h} below a e b =
+      let s : element_holds p (i + 1) elements ≡ element_holds p i elements ++ (hold_of h ∷ [])
+      = ap (λ k. element_holds p k elements) (add-one i)
+      ∙ ap (λ l. map (hold_by p element_role) (map place_at l)) (take-suc elements i blank below)
+      ∙ ap (map (hold_by p element_role)) (map-append place_at (take i elements) (get_or elements i blank ∷ []))
+      ∙ map-append (hold_by p element_role) (map place_at (take i elements)) (place_at (get_or elements i blank) ∷ [])
+      ∙ ap (λ y. element_holds p i elements ++ (y ∷ [])) (sym (wanted_is p element_role (get_or elements i blank) e)) in
+      subst (λ l. PlanFor have l r) (sym s) (plan_on have (element_holds p i elements) a b)
 
-  pub gather_step : (have : List Hold) (i : ℕ) {q r : Plan} {h : HoldRow} → i < n → PlanFor have (take i (element_holds p n elements)) q
-      → h ≡ wanted_row p element_role (get_or elements i blank) → Wished have q h r → PlanFor have (take (i + 1) (element_holds p n elements)) r
-  gather_step have i {r = r} {h = h} below a e b =
-      let wants = element_holds p n elements in
-      let s : take (i + 1) wants ≡ take i wants ++ (hold_of h ∷ [])
-      = ap (λ k. take k wants) (add-one i)
-      ∙ take-suc wants i (hold_by p element_role (place_at blank)) (omega (arith, elements_long))
-      ∙ ap (λ y. take i wants ++ (y ∷ [])) (element_at i below ∙ sym (wanted_is p element_role (get_or elements i blank) e)) in
-      subst (λ l. PlanFor have l r) (sym s) (plan_on have (take i wants) a b)
-
-  pub gather_end : (have : List Hold) (i : ℕ) {q : Plan} → n ≤ i → PlanFor have (take i (element_holds p n elements)) q
-      → PlanFor have (element_holds p n elements) q
-  gather_end have i {q} b g = subst (λ l. PlanFor have l q) (take_all i (element_holds p n elements) (omega (arith, elements_long))) g
+-- those of the first n, when all of them are met
+pub gather_end : (p n : ℕ) (elements : List Place) (have : List Hold) (i : ℕ) {q : Plan} → length (take n elements) ≤ i
+    → PlanFor have (element_holds p i (take n elements)) q → PlanFor have (element_holds p n elements) q
+unfolding element_holds
+gather_end p n elements have i {q} b g = subst (λ l. PlanFor have (map (hold_by p element_role) (map place_at l)) q) (take_all i (take n elements) b) g
 
 module _ (have : List Hold) (p : ℕ) (w : Walk) {q : Plan} (g : PlanFor have (element_holds p w.count w.elements) q) where
   with_the_end : (o : Option model_tables.Place) → (goal_of w).end ≡ o → element_holds p w.count w.elements ++ end_wanted p o ≡ wanted p (goal_of w)
@@ -218,14 +197,12 @@ module _ (have : List Hold) (p : ℕ) (w : Walk) {q : Plan} (g : PlanFor have (e
 
 -- WHAT IS KNOWN OF THE PLACES
 
-pub element_named : (w : Walk) → WalkNamed w → (i : ℕ) → PlaceNamed (get_or w.elements i blank)
+pub element_named : (w : Walk) → WalkNamed w → (i : ℕ) → PlaceNamed (get_or (take w.count w.elements) i blank)
 unfolding PlaceNamed Named blank name_of pack_name unpack_name words bytes bits filled
-element_named w n i = each_at {d = blank} n.elements refl i
+element_named w n i = each_at {d = blank} (each_take w.count n.elements) refl i
 
-pub element_used : (w : Walk) → WalkUsed w → (i : ℕ) → i < w.count → w.count ≤ 8 → PlaceUsed (get_or w.elements i blank)
-element_used w u i h few =
-    subst PlaceUsed (get_or-take w.count w.elements i blank h)
-    (each_in u.elements (at_in (take w.count w.elements) i blank (omega (arith, length-take-le w.count w.elements (omega (arith, u.room))))))
+pub element_used : (w : Walk) → WalkUsed w → (i : ℕ) → i < length (take w.count w.elements) → PlaceUsed (get_or (take w.count w.elements) i blank)
+element_used w u i h = each_in u.elements (at_in (take w.count w.elements) i blank h)
 
 pub end_used : (w : Walk) → WalkUsed w → {q : Place} {k : ℕ} → w.stop ≡ Entry q k → PlaceUsed q
 unfolding StopUsed
@@ -250,29 +227,27 @@ module _ (w : List ℕ) (s : Stands w) (h : HoldRow) {k : ℕ} (e : k ≡ first 
         tables = ap (with_holds (unpack w)) (sym (put_first free_hold (hold_of h) (unpack w).holds ∙ set_out (unpack w).holds (first free_hold 0 (unpack w).holds) (hold_of h) m));
       }
 
-abbrev pub adding : Plan → ℕ → Tables → Tables
-adding p i t = with_holds t (put_all free_hold (drop i (planned_holds p)) t.holds)
+-- the rows of a list that are left to add, from row i on
+abbrev pub adding : List HoldRow → ℕ → Tables → Tables
+adding rows i t = with_holds t (put_all free_hold (map hold_of (drop i rows)) t.holds)
 
--- the rows left to add from row i on give what all of them give
-abbrev pub LeftToAdd : Plan → List ℕ → ℕ → List ℕ → Type 0
-LeftToAdd p w i v = Towards (adding p) (with_holds (unpack w) (add_holds (planned_holds p) (unpack w).holds)) i v
+-- they give what all of them give
+abbrev pub LeftToAdd : List HoldRow → List ℕ → ℕ → List ℕ → Type 0
+LeftToAdd rows w i v = Towards (adding rows) (with_holds (unpack w) (add_holds (map hold_of rows) (unpack w).holds)) i v
 
-module _ (p : Plan) (ok : Planned p) where
-  pub add_begin : {w : List ℕ} → Stands w → LeftToAdd p w 0 w
+module _ (rows : List HoldRow) where
+  pub add_begin : {w : List ℕ} → Stands w → LeftToAdd rows w 0 w
   unfolding add_holds
-  add_begin s = begin (adding p) s refl
+  add_begin s = begin (adding rows) s refl
 
-  pub add_on : (i : ℕ) {t : Tables} {v u : List ℕ} {r : HoldRow} → i < p.count → r ≡ planned_row p i → Towards (adding p) t i v
-      → Becomes u (with_holds (unpack v) (put free_hold (hold_of r) (unpack v).holds)) → Towards (adding p) t (i + 1) u
+  pub add_on : (i : ℕ) {t : Tables} {v u : List ℕ} (d : HoldRow) → i < length rows → Towards (adding rows) t i v
+      → Becomes u (with_holds (unpack v) (put free_hold (hold_of (get_or rows i d)) (unpack v).holds)) → Towards (adding rows) t (i + 1) u
   unfolding put_all
-  add_on i {v = v} {r = r} h q a b =
-      let next : drop i (planned_holds p) ≡ hold_of r ∷ drop (i + 1) (planned_holds p)
-      = rest_at (hold_of blank_row) (planned_holds p) i (omega (arith, planned_long p ok))
-      ∙ ap (λ x. x ∷ drop (i + 1) (planned_holds p)) (planned_at p ok i h ∙ ap hold_of (sym q)) in
-      go_on (adding p) i a b (ap (λ l. with_holds (unpack v) (put_all free_hold l (unpack v).holds)) (sym next))
+  add_on i {v = v} d h a b =
+      go_on (adding rows) i a b
+      (ap (λ l. with_holds (unpack v) (put_all free_hold l (unpack v).holds)) (sym (ap (map hold_of) (rest_at d rows i h))))
 
-  pub add_end : (i : ℕ) {t : Tables} {v : List ℕ} → p.count ≤ i → Towards (adding p) t i v → Becomes v t
+  pub add_end : (i : ℕ) {t : Tables} {v : List ℕ} → length rows ≤ i → Towards (adding rows) t i v → Becomes v t
   unfolding put_all
   add_end i {v = v} h a =
-      arrive (adding p) i a
-      (ap (λ l. with_holds (unpack v) (put_all free_hold l (unpack v).holds)) (drop_of_length-le (planned_holds p) {i = i} (omega (arith, planned_long p ok))))
+      arrive (adding rows) i a (ap (λ l. with_holds (unpack v) (put_all free_hold (map hold_of l) (unpack v).holds)) (drop_of_length-le rows {i = i} h))

@@ -1,11 +1,11 @@
 -- Holds to be taken as the code plans them, and what the model takes. Assumes nothing.
-use Rattle.std.specs.Prelude.{◌≡◌, true, false, List, [], ◌∷◌, ◌++◌, map, ℕ, ◌+◌, ◌≤◌, ◌<◌, length, get_or, take}
+use Rattle.std.specs.Prelude.{◌≡◌, Bool, true, false, ◌&&◌, List, [], ◌∷◌, ◌++◌, map, ℕ, ◌+◌, ◌≤◌, ◌<◌, length, get_or, take, eqb}
 use Rattle.model.specs.Lists.{put}
 use Rattle.model.specs.Tables.{Hold, element_role, no_hold, free_hold}
 use Rattle.model.specs.Holds.{of_process, hold_by, lacking, copy_for}
 use Rattle.laws.specs.Each.{Each}
 use Rattle.rows.specs.declared.HoldRow.{HoldRow}
-use Rattle.rows.specs.Blocks.{Named}
+use Rattle.rows.specs.Blocks.{Named, same_block}
 use Rattle.rows.specs.Rows.{hold_of, GoodHold}
 use Rattle.goals.specs.declared.Place.{Place}
 use Rattle.goals.specs.declared.Stop.{Stop}
@@ -23,6 +23,10 @@ pub record Fine (h : HoldRow) : Type 0 where
 abbrev pub blank_row : HoldRow
 blank_row = record { directory = 0; process = 0; name = record { first = 0; second = 0; third = 0; fourth = 0 }; role = 0 }
 
+-- two rows are of one hold: process, role, directory and block agree
+abbrev pub same_rows : HoldRow → HoldRow → Bool
+same_rows a b = eqb a.process b.process && eqb a.role b.role && (eqb a.directory b.directory && same_block a.name b.name)
+
 -- how many holds one call can lack: those on eight elements and on the end
 abbrev pub plan_room : ℕ
 plan_room = 9
@@ -31,9 +35,6 @@ pub record Planned (p : Plan) : Type 0 where
   pub few : p.count ≤ plan_room
   pub room : length p.rows ≡ plan_room
   pub fine : Each Fine p.rows
-
-abbrev pub planned_row : Plan → ℕ → HoldRow
-planned_row p i = get_or p.rows i blank_row
 
 -- the holds of a plan, in the order in which they are taken
 unfoldable pub planned_holds : Plan → List Hold

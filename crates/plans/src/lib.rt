@@ -10,13 +10,12 @@ ghost use Rattle.rows.specs.Blocks.{Named};
 ghost use Rattle.rows.specs.Rows.{hold_of};
 ghost use Rattle.rows.specs.Stands.{Stands, Becomes};
 ghost use Rattle.goals.specs.Goals.{goal_of, WalkNamed};
-ghost use Rattle.plans.specs.Plans.{Fine, plan_room, Planned, planned_row, planned_holds, wanted_row, element_holds, Wished, WalkUsed, PlanFor, copied_at};
+ghost use Rattle.plans.specs.Plans.{Fine, plan_room, Planned, same_rows, planned_holds, wanted_row, element_holds, Wished, WalkUsed, PlanFor, copied_at};
 
 use edits::set_hold;
 use goals::{Place, Stop, Walk};
 use rows::{
     Block, ELEMENT, END, HOLD_ROWS, HoldRow, hold_directory, hold_name, hold_process, hold_role,
-    same_blocks,
 };
 use search::{free_hold_row, free_hold_rows, has_hold};
 
@@ -34,52 +33,28 @@ pub struct Plan {
 fn hold_row(place: Place, process: u16, role: u8) -> HoldRow
     ensures { result ≡ wanted_row process role place }
 {
-    let name = place.name;
     HoldRow {
         directory: place.directory,
         process,
-        name,
+        name: place.name,
         role,
     }
 }
 
+// stays: compared by field, not by a derived `==`: sameness is by process, role and place alone, so that a hold may get a further field (docs/DECISIONS.md).
 fn same_holds(a: HoldRow, b: HoldRow) -> bool
-    requires { (Named a.name) × (Named b.name) }
-    ensures { result ≡ same_hold (hold_of a) (hold_of b) }
+    ensures { result ≡ same_rows a b }
 {
-    if a.process != b.process {
-        return false;
-    }
-    if a.role != b.role {
-        return false;
-    }
-    if a.directory != b.directory {
-        return false;
-    }
-    same_blocks(a.name, b.name)
-}
-
-fn row_of(plan: Plan, i: usize) -> HoldRow
-    requires { (Planned plan) × (i < plan.count) }
-    ensures { result ≡ planned_row plan i }
-{
-    let rows = plan.rows;
-    rows[i]
+    a.process == b.process && a.role == b.role && a.directory == b.directory && a.name == b.name
 }
 
 fn is_planned(plan: Plan, hold: HoldRow) -> bool
     requires { (Planned plan) × (Named hold.name) }
     ensures { result ≡ any (same_hold (hold_of hold)) (planned_holds plan) }
 {
-    let count = plan.count;
-    let mut i = 0;
-    while i < count {
-        if same_holds(hold, row_of(plan, i)) {
-            return true;
-        }
-        i += 1;
-    }
-    false
+    plan.rows[..plan.count]
+        .iter()
+        .any(|row| same_holds(hold, *row))
 }
 
 // The plan with one hold more, where it is lacking.
@@ -87,18 +62,14 @@ fn wish(words: &[u32], plan: Plan, hold: HoldRow) -> Plan
     requires { (Stands words.now) × ((Planned plan) × ((plan.count < plan_room) × (Fine hold))) }
     ensures { Wished (unpack words.now).holds plan hold result }
 {
-    if has_hold(words, hold) {
+    if has_hold(words, hold) || is_planned(plan, hold) {
         return plan;
     }
-    if is_planned(plan, hold) {
-        return plan;
-    }
-    let count = plan.count;
     let mut rows = plan.rows;
-    rows[count] = hold;
+    rows[plan.count] = hold;
     Plan {
-        count: count + 1,
-        rows: rows,
+        count: plan.count + 1,
+        rows,
     }
 }
 
@@ -108,23 +79,14 @@ fn plan_elements(words: &[u32], process: u16, walk: Walk) -> Plan
 {
     let nowhere = Place {
         directory: 0,
-        name: Block {
-            first: 0,
-            second: 0,
-            third: 0,
-            fourth: 0,
-        },
+        name: Block::default(),
     };
     let mut plan = Plan {
         count: 0,
         rows: [hold_row(nowhere, 0, 0); PLAN_ROOM],
     };
-    let elements = walk.elements;
-    let count = walk.count;
-    let mut i = 0;
-    while i < count {
-        plan = wish(words, plan, hold_row(elements[i], process, ELEMENT));
-        i += 1;
+    for place in &walk.elements[..walk.count] {
+        plan = wish(words, plan, hold_row(*place, process, ELEMENT));
     }
     plan
 }
@@ -135,8 +97,7 @@ pub fn plan_holds(words: &[u32], process: u16, walk: Walk) -> Plan
     ensures { PlanFor (unpack words.now).holds (wanted process (goal_of walk)) result }
 {
     let plan = plan_elements(words, process, walk);
-    let stop = walk.stop;
-    match stop {
+    match walk.stop {
         Stop::Refused(_) => plan,
         Stop::Root => plan,
         Stop::Entry { place, node: _ } => wish(words, plan, hold_row(place, process, END)),
@@ -147,11 +108,7 @@ pub fn lacks_room(words: &[u32], plan: Plan) -> bool
     requires { (Stands words.now) × (Planned plan) }
     ensures { result ≡ no_room (unpack words.now) (planned_holds plan) }
 {
-    let count = plan.count;
-    if count == 0 {
-        return false;
-    }
-    free_hold_rows(words) < count
+    plan.count > 0 && free_hold_rows(words) < plan.count
 }
 
 fn add_hold(words: &mut [u32], hold: HoldRow)
@@ -168,11 +125,8 @@ pub fn add_planned(words: &mut [u32], plan: Plan)
     requires { (Stands words.old) × (Planned plan) }
     ensures { Becomes words.new (with_holds (unpack words.old) (add_holds (planned_holds plan) (unpack words.old).holds)) }
 {
-    let count = plan.count;
-    let mut i = 0;
-    while i < count {
-        add_hold(words, row_of(plan, i));
-        i += 1;
+    for row in &plan.rows[..plan.count] {
+        add_hold(words, *row);
     }
 }
 
@@ -182,15 +136,9 @@ pub fn count_of_process(words: &[u32], process: u16) -> usize
     requires { Stands words.now }
     ensures { result ≡ count (of_process process) (unpack words.now).holds }
 {
-    let mut found: usize = 0;
-    let mut i = 0;
-    while i < HOLD_ROWS {
-        if hold_process(words, i) == process {
-            found += 1;
-        }
-        i += 1;
-    }
-    found
+    (0..HOLD_ROWS)
+        .filter(|row| hold_process(words, *row) == process)
+        .count()
 }
 
 fn copy_row(words: &mut [u32], row: usize, parent: u16, child: u16)
@@ -198,10 +146,11 @@ fn copy_row(words: &mut [u32], row: usize, parent: u16, child: u16)
     ensures { Becomes words.new (with_holds (unpack words.old) (copied_at parent child row (unpack words.old).holds)) }
 {
     if hold_process(words, row) == parent {
-        let directory = hold_directory(words, row);
-        let name = hold_name(words, row);
+        let place = Place {
+            directory: hold_directory(words, row),
+            name: hold_name(words, row),
+        };
         let role = hold_role(words, row);
-        let place = Place { directory, name };
         add_hold(words, hold_row(place, child, role));
     }
 }
@@ -211,9 +160,7 @@ pub fn copy_holds(words: &mut [u32], parent: u16, child: u16)
     requires { (Stands words.old) × ((1 ≤ parent) × (parent ≢ child)) }
     ensures { Becomes words.new (with_holds (unpack words.old) (add_holds (copies parent child (unpack words.old).holds) (unpack words.old).holds)) }
 {
-    let mut i = 0;
-    while i < HOLD_ROWS {
-        copy_row(words, i, parent, child);
-        i += 1;
+    for row in 0..HOLD_ROWS {
+        copy_row(words, row, parent, child);
     }
 }

@@ -1,27 +1,20 @@
 -- `plans::add_planned` meets its contract: the rows left to add give what all of them give. Assumes nothing.
-use native.Mathlib.Omega.{arith}
-use borrow.Author.Rules.{rules}
-use Rattle.plans.proofs.Planning.{add_begin, add_end, add_on, fine_row}
+use lib.ListN.{take}
+use Rattle.laws.proofs.Each.{each_at}
+use Rattle.plans.proofs.Planning.{add_begin, add_end, add_on, blank_fine, fine_rows}
+use Rattle.plans.specs.Plans.{blank_row, planned_holds}
 use Rattle.plans.proofs.add_planned.Goals as goal
 
-pub loop-i-init : goal.loop-i-init
-loop-i-init c = (search rules, add_begin c.args.plan c.requires.1 c.requires.0)
-
-pub row_of-requires : goal.row_of-requires
-row_of-requires c = (c.requires.1, c.loop-i-test.true)
+pub loop-row-init : goal.loop-row-init
+loop-row-init c = add_begin (take c.args.plan.count c.args.plan.rows) c.requires.0
 
 pub add_hold-requires : goal.add_hold-requires
-add_hold-requires c = (c.loop-i.invariant.1.stands, fine_row c.args.plan c.requires.1 c.loop-i.i c.row_of.ensures)
+add_hold-requires c = (c.loop-row.invariant.stands, each_at (fine_rows c.args.plan c.requires.1) blank_fine c.loop-row.row-index)
 
-pub loop-i-preserved : goal.loop-i-preserved
-loop-i-preserved c = (
-  omega arith,
-  add_on c.args.plan c.requires.1 c.loop-i.i c.loop-i-test.true c.row_of.ensures c.loop-i.invariant.1
-      c.add_hold.ensures,
-)
-
-pub shape_of-words : goal.shape_of-words
-shape_of-words c = omega (arith, c.loop-i.invariant.1.stands.long, c.requires.0.long)
+pub loop-row-preserved : goal.loop-row-preserved
+loop-row-preserved c =
+    add_on (take c.args.plan.count c.args.plan.rows) c.loop-row.row-index blank_row c.loop-row-test.true c.loop-row.invariant c.add_hold.ensures
 
 pub returns : goal.returns
-returns c = add_end c.args.plan c.requires.1 c.loop-i.i c.loop-i-test.false c.loop-i.invariant.1
+unfolding planned_holds
+returns c = add_end (take c.args.plan.count c.args.plan.rows) c.loop-row.row-index c.loop-row-test.false c.loop-row.invariant
