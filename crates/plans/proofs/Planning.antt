@@ -9,24 +9,26 @@ use native.Mathlib.Numerals.{add-one}
 use borrow.Author.Tests.{le-ltb}
 use lib.Dec.{eqb, ltb}
 use Rattle.std.specs.List.{list_any}
+use Rattle.std.specs.Prelude.{Some, None}
 use lib.ListN.{length, get_or, set, take, drop, replicate, length-append, length-take, length-set, length-map, drop_of_length-le}
-use lib.Seq.{take_all, take-suc, take-suc-set, length-take-le, set_out}
-use Rattle.model.specs.Lists.{filled, any, count, first, put, put_all}
+use lib.Seq.{take_all, take-suc, take-suc-set, length-take-le}
+use Rattle.model.specs.Lists.{filled, any, count, put, put_all}
 use Rattle.model.specs.Tables as model_tables
-use Rattle.model.specs.Tables.{Tables, Hold, hold_rows, free_hold, end_role, element_role, same_place, with_holds}
+use Rattle.model.specs.Tables.{Tables, Hold, free_hold, end_role, element_role, same_place, with_holds}
 use Rattle.model.specs.Sound.{same_hold}
 use Rattle.model.specs.Words.{pack_name, unpack_name, pack_hold, unpack_hold, bits, bytes, words, unpack}
 use Rattle.model.specs.Holds.{hold_by, end_wanted, wanted, lacking, no_room, add_holds}
 use Rattle.laws.proofs.Bools.{or_right, neither}
 use Rattle.laws.proofs.Each.{Each, each_head, each_tail, each_at, each_set, each_take, each_replicate}
-use Rattle.laws.proofs.Loops.{rest_at, put_first}
+use Rattle.laws.proofs.Loops.{rest_at}
 use Rattle.laws.proofs.Members.{each_in, at_in}
 use Rattle.rows.specs.declared.HoldRow.{HoldRow}
 use Rattle.rows.specs.Blocks.{Named, name_of, place_of}
 use Rattle.rows.specs.Rows.{hold_of}
 use Rattle.rows.specs.Stands.{Stands, Becomes}
 use Rattle.rows.proofs.Blocks.{same_blocks_same_names}
-use Rattle.rows.proofs.Parts.{holds_full}
+use Rattle.search.specs.Rows.{first_row}
+use Rattle.search.proofs.Rows.{put_found, put_missing}
 use Rattle.edits.proofs.Written.{good_hold}
 use Rattle.goals.specs.declared.Place.{Place}
 use Rattle.goals.specs.declared.Stop.TheVariants.{Entry}
@@ -210,22 +212,14 @@ end_used w u e = subst StopUsed e u.stop
 
 -- ADDING
 
-module _ (w : List ℕ) (s : Stands w) (h : HoldRow) {k : ℕ} (e : k ≡ first free_hold 0 (unpack w).holds) where
-  pub hold_added : {v : List ℕ} → Becomes v (with_holds (unpack w) (set (unpack w).holds k (hold_of h)))
-      → Becomes v (with_holds (unpack w) (put free_hold (hold_of h) (unpack w).holds))
-  hold_added b =
-      record {
-        stands = b.stands;
-        tables = b.tables ∙ ap (with_holds (unpack w)) (ap (λ n. set (unpack w).holds n (hold_of h)) e ∙ sym (put_first free_hold (hold_of h) (unpack w).holds));
-      }
+module _ (w : List ℕ) (h : HoldRow) where
+  pub hold_added : {k : ℕ} → Some k ≡ first_row free_hold (unpack w).holds → {v : List ℕ}
+      → Becomes v (with_holds (unpack w) (set (unpack w).holds k (hold_of h))) → Becomes v (with_holds (unpack w) (put free_hold (hold_of h) (unpack w).holds))
+  hold_added e b =
+      record { stands = b.stands; tables = b.tables ∙ ap (with_holds (unpack w)) (sym (put_found free_hold (unpack w).holds (hold_of h) e)) }
 
-  pub no_row_free : hold_rows ≤ k → Becomes w (with_holds (unpack w) (put free_hold (hold_of h) (unpack w).holds))
-  no_row_free l =
-      let m : length (unpack w).holds ≤ first free_hold 0 (unpack w).holds = omega (arith, holds_full w) in
-      record {
-        stands = s;
-        tables = ap (with_holds (unpack w)) (sym (put_first free_hold (hold_of h) (unpack w).holds ∙ set_out (unpack w).holds (first free_hold 0 (unpack w).holds) (hold_of h) m));
-      }
+  pub no_row_free : Stands w → None ≡ first_row free_hold (unpack w).holds → Becomes w (with_holds (unpack w) (put free_hold (hold_of h) (unpack w).holds))
+  no_row_free s e = record { stands = s; tables = ap (with_holds (unpack w)) (sym (put_missing free_hold (unpack w).holds (hold_of h) e)) }
 
 -- the rows of a list that are left to add, from row i on
 abbrev pub adding : List HoldRow → ℕ → Tables → Tables

@@ -115,8 +115,7 @@ fn add_hold(words: &mut [u32], hold: HoldRow)
     requires { (Stands words.old) × (Fine hold) }
     ensures { Becomes words.new (with_holds (unpack words.old) (put free_hold (hold_of hold) (unpack words.old).holds)) }
 {
-    let row = free_hold_row(words);
-    if row < HOLD_ROWS {
+    if let Some(row) = free_hold_row(words) {
         set_hold(words, row, hold);
     }
 }
