@@ -1,15 +1,15 @@
 -- End holds by their chains: each agrees with all before it where it agrees with the last of them on its place. Assumes nothing.
-use mathlib.Core.Path.{◌≡◌, sym, ap, ap₂, ◌∙◌}
+use mathlib.Core.Path.{◌≡◌, subst, sym, ap, ap₂, ◌∙◌}
 use mathlib.Core.Bool.{Bool, true, false, ◌||◌}
 use mathlib.Core.List.{List}
-use Prim.Native.Nat.{ℕ, ◌+◌, ◌-◌, ◌≤◌, ◌<◌}
+use Prim.Native.Nat.{ℕ, suc, ◌+◌, ◌-◌, ◌≤◌, ◌<◌}
 use native.Mathlib.Omega.{arith}
 use native.Mathlib.Decide.{dec_lt, ℕ_discrete}
 use borrow.Author.Tests.{eqb-true, eq-eqb, ne_eqb}
 use lib.Dec.{eqb}
 use lib.ListN.{length, get_or, set, replicate}
 use Rattle.model.specs.Lists.{all}
-use Rattle.model.specs.Tables.{Hold, Process, no_hold, free_hold, hold_rows, end_role, user_of}
+use Rattle.model.specs.Tables.{Hold, Process, no_hold, free_hold, hold_rows, end_role, same_place, user_of}
 use Rattle.model.specs.Sound.{each_used, is_end, agree, ends_of_one_user}
 use Rattle.model.specs.Words.{unpack}
 use Rattle.laws.proofs.Bools.{clash, and_left, and_right, both, or_left, or_right, is_false}
@@ -20,9 +20,9 @@ use Rattle.laws.proofs.Places.{same_place_self, same_place_equal}
 use Rattle.rows.specs.Stands.{hold_row}
 use Rattle.rows.proofs.Fields.{hold_row_fits}
 use Rattle.rows.proofs.Parts.{holds_full}
-use Rattle.index.specs.Buckets.{last_below, Chained, Descent}
+use Rattle.index.specs.Buckets.{last_below, in_bucket, Chained, Chain, Asked, Last}
 use Rattle.index.proofs.Buckets.{last_within, last_passes, none_below, chained_none, chained_past, chained_more}
-use Rattle.index.proofs.Descents.{descent_from_head}
+use Rattle.index.proofs.Descents.{bucket_chain, bucket_asked, last_passing}
 use Rattle.hold_rules.specs.Used.{used_rows}
 use Rattle.hold_rules.specs.Chains.{hold_buckets, place_bucket, end_chains, end_on, end_at_row, user_of_row, last_agrees}
 use Rattle.hold_rules.proofs.Used.{free_behind}
@@ -39,21 +39,35 @@ end_used w k t =
     let o = eqb-true (hold_row w k).role end_role t in
     let x : ⊥ = omega arith in x)
 
+-- the end holds before row i in the bucket of its place: whether one is on the place may be asked of each, and the answers find the last
+module _ (w : List ℕ) (i : ℕ) (r : i < hold_rows) {next : List ℕ} {from : ℕ}
+    (c : Chain (in_bucket (end_chains (unpack w).holds) (place_bucket (hold_row w i).place)) next from i) where
+  pub ends_asked : {may : ℕ → Type 0} → ((k : ℕ) → k < hold_rows → may k) → Asked may next from
+  ends_asked m = bucket_asked _ _ c (λ k l _. m k (omega (arith, l)))
+
+  pub ends_last : {says : ℕ → Bool → Type 0} {found : ℕ} → Last says next from found
+      → ((k : ℕ) (answer : Bool) → says k answer → answer ≡ same_place (hold_row w k).place (hold_row w i).place) → found ≡ last_below (end_at_row w i) i
+  ends_last found told =
+      last_passing _ _ c found (end_on (hold_row w i).place) (λ k answer _ chosen a. told k answer a ∙ sym (rw chosen))
+      (λ x t. (and_left (is_end x) _ t, ap place_bucket (same_place_equal x.place (hold_row w i).place (and_right (is_end x) _ t))))
+
 -- row i compared with the last before it
-module _ (w : List ℕ) (i : ℕ) {l : ℕ} (e : l ≡ last_below (end_at_row w i) i) where
-  pub no_last : l ≡ 0 → true ≡ last_agrees w i
+module _ (w : List ℕ) (i : ℕ) where
+  pub no_last : 0 ≡ last_below (end_at_row w i) i → true ≡ last_agrees w i
   unfolding last_agrees
-  no_last z = sym (or_left _ (eq-eqb (last_below (end_at_row w i) i) 0 (sym e ∙ z)))
+  no_last z = sym (or_left _ (eq-eqb (last_below (end_at_row w i) i) 0 (sym z)))
 
-  pub last_row : i < hold_rows → (l ≡ 0 → ⊥) → l - 1 < hold_rows
-  last_row h z = omega (arith, last_within (end_at_row w i) i)
+  module _ {row : ℕ} (e : suc row ≡ last_below (end_at_row w i) i) where
+    pub last_row : i < hold_rows → row < hold_rows
+    last_row h = omega (arith, last_within (end_at_row w i) i)
 
-  pub users_decide : (l ≡ 0 → ⊥) → {p q u v : ℕ} → p ≡ (hold_row w (l - 1)).process → u ≡ user_of (unpack w).processes p → q ≡ (hold_row w i).process
-      → v ≡ user_of (unpack w).processes q → eqb u v ≡ last_agrees w i
-  unfolding last_agrees
-  users_decide z a b c d =
-      ap₂ eqb (b ∙ ap (user_of (unpack w).processes) a ∙ ap (λ x. user_of_row w (x - 1)) e) (d ∙ ap (user_of (unpack w).processes) c)
-      ∙ sym (rw (ne_eqb (last_below (end_at_row w i) i) 0 (λ y. z (e ∙ y))))
+    pub users_decide : {p q u v : ℕ} → p ≡ (hold_row w row).process → u ≡ user_of (unpack w).processes p → q ≡ (hold_row w i).process
+        → v ≡ user_of (unpack w).processes q → eqb u v ≡ last_agrees w i
+    unfolding last_agrees
+    users_decide a b c d =
+        let here : row ≡ last_below (end_at_row w i) i - 1 = omega arith in
+        ap₂ eqb (b ∙ ap (user_of (unpack w).processes) a ∙ ap (user_of_row w) here) (d ∙ ap (user_of (unpack w).processes) c)
+        ∙ sym (rw (ne_eqb (last_below (end_at_row w i) i) 0 (λ y. omega arith)))
 
 -- BEFORE ROW i IS LOOKED AT
 
@@ -108,12 +122,11 @@ module _ (w : List ℕ) {heads next : List ℕ} where
       unfolding is_end
       this_end = eq-eqb (hold_row w i).role end_role (sym e ∙ one)
 
-      -- only rows of its bucket have an end hold on the row's place
-      pub end_descent : {h : ℕ} → h ≡ place_bucket (hold_row w i).place → h < hold_buckets
-          → Descent (end_chains (unpack w).holds) (end_on (hold_row w i).place) next (get_or heads h 0) (place_bucket (hold_row w i).place) i
-      end_descent f s =
-          descent_from_head g.chained f s (λ x t.
-          (and_left (is_end x) _ t, ap place_bucket (same_place_equal x.place (hold_row w i).place (and_right (is_end x) _ t))))
+      pub end_chain : {h : ℕ} → h ≡ place_bucket (hold_row w i).place → h < hold_buckets
+          → Chain (in_bucket (end_chains (unpack w).holds) (place_bucket (hold_row w i).place)) next (get_or heads h 0) i
+      end_chain {h} f s =
+          let its : ℕ → Type 0 = λ b. Chain (in_bucket (end_chains (unpack w).holds) b) next (get_or heads h 0) i in
+          subst its f (bucket_chain g.chained s)
 
       abbrev last : ℕ
       last = last_below (end_at_row w i) i

@@ -1,6 +1,6 @@
 -- Holds by their chains: what the code needs while it looks for a hold that stands in two rows. Assumes nothing.
 use mathlib.Core.Path.{◌≡◌, refl, sym, ap, ap₂, ◌∙◌}
-use mathlib.Core.Bool.{true, false, not}
+use mathlib.Core.Bool.{Bool, true, false, not}
 use mathlib.Core.List.{List}
 use Prim.Native.Nat.{ℕ, ◌+◌, ◌-◌, ◌*◌, ◌%◌, ◌≤◌, ◌<◌}
 use native.Mathlib.Omega.{arith}
@@ -12,9 +12,9 @@ use Rattle.model.specs.Words.{unpack}
 use Rattle.laws.proofs.Places.{same_hold_one, free_together}
 use Rattle.rows.specs.Stands.{hold_row}
 use Rattle.rows.proofs.Parts.{holds_full}
-use Rattle.index.specs.Buckets.{last_below, Descent}
+use Rattle.index.specs.Buckets.{last_below, Asked, Last}
 use Rattle.index.proofs.Apart.{Comparable, ApartChained, apart_starts, apart_past, apart_more, apart_twice, apart_behind, apart_ends}
-use Rattle.index.proofs.Descents.{descent_from_head}
+use Rattle.index.proofs.Descents.{bucket_chain, bucket_asked, last_passing}
 use Rattle.hold_rules.specs.Used.{used_rows}
 use Rattle.hold_rules.specs.Chains.{hold_buckets, place_sum, hold_bucket, hold_chains, same_as_row}
 use Rattle.hold_rules.proofs.Used.{free_behind}
@@ -46,12 +46,16 @@ module _ (w : List ℕ) {heads next : List ℕ} where
       unfolding free_hold
       this_used = ne_eqb (hold_row w i).place.directory 0 (λ z. u (e ∙ z))
 
-      -- only rows of its bucket have the row's hold
-      pub same_descent : {h : ℕ} → h ≡ hold_bucket (hold_row w i) → h < hold_buckets
-          → Descent (hold_chains (unpack w).holds) (λ x. same_hold x (hold_row w i)) next (get_or heads h 0) (hold_bucket (hold_row w i)) i
-      same_descent f s =
-          descent_from_head g.chained f s (λ x same.
-          (ap not (free_together x (hold_row w i) same ∙ this_used), same_bucket x (hold_row w i) same))
+      -- only rows of its bucket have the row's hold: whether a row has it may be asked of each, and the answers find the last
+      module _ {h : ℕ} (f : h ≡ hold_bucket (hold_row w i)) (s : h < hold_buckets) where
+        pub same_asked : {may : ℕ → Type 0} → ((k : ℕ) → k < hold_rows → may k) → Asked may next (get_or heads h 0)
+        same_asked m = bucket_asked _ _ (bucket_chain g.chained s) (λ k l _. m k (omega (arith, l)))
+
+        pub same_last : {says : ℕ → Bool → Type 0} {found : ℕ} → Last says next (get_or heads h 0) found
+            → ((k : ℕ) (answer : Bool) → says k answer → answer ≡ same_as_row w i k) → found ≡ last_below (same_as_row w i) i
+        same_last found told =
+            last_passing _ _ (bucket_chain g.chained s) found (λ x. same_hold x (hold_row w i)) (λ k answer _ _ a. told k answer a)
+            (λ x same. (ap not (free_together x (hold_row w i) same ∙ this_used), same_bucket x (hold_row w i) same ∙ sym f))
 
       module _ {l : ℕ} (last : l ≡ last_below (same_as_row w i) i) where
         pub comparing_more : l ≡ 0 → {h : ℕ} → h ≡ hold_bucket (hold_row w i) → h < hold_buckets

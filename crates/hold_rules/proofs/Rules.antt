@@ -2,12 +2,15 @@
 use mathlib.Core.Path.{◌≡◌, sym, ap, ◌∙◌}
 use mathlib.Core.Bool.{Bool, true, false, not, ◌&&◌, ◌||◌}
 use mathlib.Core.List.{List}
-use Prim.Native.Nat.{ℕ, ◌+◌, ◌≤◌, ◌<◌}
+use Prim.Native.Nat.{ℕ, ◌<◌}
 use native.Mathlib.Omega.{arith}
 use native.Mathlib.Decide.{dec_lt}
 use borrow.Author.Tests.{eq-eqb, ne_eqb}
 use lib.Dec.{eqb}
-use lib.ListN.{length}
+use lib.ListN.{length, get_or}
+use Rattle.std.specs.Prelude.{HoldsAt, MatchBool}
+use Rattle.std.specs.List.{AllWithin, range_with_len}
+use Rattle.std.proofs.lemmas.List.FromFn.{length-range_with_len, get_or-range_with_len}
 use Rattle.model.specs.Lists.{all}
 use Rattle.model.specs.Tables.{Hold, a_directory, no_hold, free_hold, hold_rows, node_at, is_directory, listed}
 use Rattle.model.specs.Sound.{each_used, holds_in_directories, holds_of_listed}
@@ -20,7 +23,7 @@ use Rattle.rows.specs.Stands.{hold_row}
 use Rattle.rows.proofs.Parts.{holds_full}
 use Rattle.hold_rules.specs.Placed.{placed, row_placed}
 use Rattle.hold_rules.specs.Used.{used_rows}
-use Rattle.hold_rules.proofs.Used.{free_behind}
+use Rattle.hold_rules.proofs.Used.{used_inside, free_behind}
 
 -- ONE HOLD, as the code tests it
 
@@ -53,10 +56,20 @@ module _ (w : List ℕ) (row : ℕ) {d : ℕ} (p : d ≡ (hold_row w row).place.
       pub of_listed : (m ≡ 0 → ⊥) → {r : Bool} → r ≡ listed (unpack w).processes m → r ≡ row_placed w row
       of_listed n e = rw (used_row, in_directory, ne_eqb (hold_row w row).process 0 (λ z. n (f ∙ z))) (e ∙ ap (listed (unpack w).processes) f)
 
--- ROW AFTER ROW
+-- EVERY ROW
 
-pub record PlacedBelow (w : List ℕ) (i : ℕ) : Type 0 where
-  pub right : (k : ℕ) → k < i → row_placed w k ≡ true
+-- what a test of every number below n says, which the library says of the list of them
+pub each_below : (p : ℕ → Bool) (n : ℕ) (r : Bool)
+    → MatchBool r (AllWithin (λ k. p k ≡ true) (range_with_len 0 n) 0 (length (range_with_len 0 n)))
+    ((k : ℕ) × (k < length (range_with_len 0 n)) × HoldsAt (λ k. p k ≡ false) (range_with_len 0 n) k)
+    → MatchBool r ((k : ℕ) → k < n → p k ≡ true) ((k : ℕ) × (k < n) × (p k ≡ false))
+each_below p n true m = λ k h.
+    let at : get_or (range_with_len 0 n) k 0 ≡ k = omega (arith, get_or-range_with_len 0 n k 0 h) in
+    ap p (sym at) ∙ m k 0 (omega arith) (omega (arith, length-range_with_len 0 n))
+each_below p n false (k, h, m) =
+    let l : k < n = omega (arith, length-range_with_len 0 n) in
+    let at : get_or (range_with_len 0 n) k 0 ≡ k = omega (arith, get_or-range_with_len 0 n k 0 l) in
+    (k, l, ap p (sym at) ∙ m 0)
 
 module _ (w : List ℕ) where
   -- the two rules are one test of each row
@@ -72,21 +85,21 @@ module _ (w : List ℕ) where
       of_one : Hold → Bool
       of_one x = free_hold x || (not (eqb x.process 0) && listed (unpack w).processes x.process)
 
-  pub placed_none : PlacedBelow w 0
-  placed_none = record { right = λ k h. absurd (let z : ⊥ = omega arith in z) }
-
-  pub placed_more : {i : ℕ} → PlacedBelow w i → row_placed w i ≡ true → PlacedBelow w (i + 1)
-  placed_more {i} g t =
-      record { right = λ k h. elim (dec_lt k i) [ yes l ↦ g.right k l | no n ↦ (let e : k ≡ i = omega arith in ap (row_placed w) e ∙ t) ] }
-
-  pub not_placed : (i : ℕ) → i < hold_rows → row_placed w i ≡ false → false ≡ (holds_in_directories (unpack w) && holds_of_listed (unpack w))
+  not_placed : (i : ℕ) → i < hold_rows → row_placed w i ≡ false → false ≡ (holds_in_directories (unpack w) && holds_of_listed (unpack w))
   not_placed i r f =
       let here = at_in (unpack w).holds i no_hold (omega (arith, holds_full w)) in
       sym (is_false (holds_in_directories (unpack w) && holds_of_listed (unpack w)) (λ t.
       clash (all_in (placed (unpack w)) (unpack w).holds (placed_rules ∙ t) here) f))
 
-  pub all_placed : {i rows : ℕ} → PlacedBelow w i → rows ≡ used_rows w → rows ≤ i → true ≡ (holds_in_directories (unpack w) && holds_of_listed (unpack w))
-  all_placed {i} g e h = sym (each_passes (placed (unpack w)) (each_by_place (unpack w).holds no_hold passes)) ∙ placed_rules
+  all_placed : {rows : ℕ} → rows ≡ used_rows w → ((k : ℕ) → k < rows → row_placed w k ≡ true)
+      → true ≡ (holds_in_directories (unpack w) && holds_of_listed (unpack w))
+  all_placed {rows} e right = sym (each_passes (placed (unpack w)) (each_by_place (unpack w).holds no_hold passes)) ∙ placed_rules
     where
       passes : (k : ℕ) → k < length (unpack w).holds → row_placed w k ≡ true
-      passes k l = elim (dec_lt k i) [ yes a ↦ g.right k a | no n ↦ or_left _ (free_behind w e k (omega arith) (omega (arith, holds_full w))) ]
+      passes k l = elim (dec_lt k rows) [ yes a ↦ right k a | no n ↦ or_left _ (free_behind w e k (omega arith) (omega (arith, holds_full w))) ]
+
+  pub rows_decide : {rows : ℕ} → rows ≡ used_rows w → (r : Bool)
+      → MatchBool r ((k : ℕ) → k < rows → row_placed w k ≡ true) ((k : ℕ) × (k < rows) × (row_placed w k ≡ false))
+      → r ≡ (holds_in_directories (unpack w) && holds_of_listed (unpack w))
+  rows_decide e true m = all_placed e m
+  rows_decide e false m = let inside = m.1 in not_placed m.0 (omega (arith, used_inside w e)) m.2

@@ -2,8 +2,9 @@
 use mathlib.Core.Path.{◌≡◌, refl, sym, ap, ◌∙◌}
 use mathlib.Core.Bool.{true, not}
 use mathlib.Core.List.{List}
-use Prim.Native.Nat.{ℕ, suc, ◌-◌, ◌≤◌, ◌<◌}
+use Prim.Native.Nat.{ℕ, suc, ◌+◌, ◌-◌, ◌≤◌, ◌<◌}
 use native.Mathlib.Omega.{arith}
+use native.Mathlib.Numerals.{add-one}
 use borrow.Author.Tests.{eq-eqb, ne_eqb}
 use Rattle.model.specs.Tables.{free_hold, hold_rows}
 use Rattle.laws.proofs.Bools.{not_false, is_false}
@@ -21,7 +22,7 @@ module _ (w : List ℕ) where
   pub free_from_starts : FreeFrom w hold_rows
   free_from_starts = record { inside = omega arith; same = refl }
 
-  module _ {i : ℕ} (g : FreeFrom w i) (z : i ≡ 0 → ⊥) {d : ℕ} (e : d ≡ (hold_row w (i - 1)).place.directory) where
+  module _ {i : ℕ} (g : FreeFrom w i) (some : 0 < i) {d : ℕ} (e : d ≡ (hold_row w (i - 1)).place.directory) where
     this : suc (i - 1) ≡ i
     this = omega arith
 
@@ -35,14 +36,16 @@ module _ (w : List ℕ) where
               ∙ ap (last_below (hold_used w)) this ∙ g.same;
         }
 
-    pub last_used : (d ≡ 0 → ⊥) → i ≡ used_rows w
+    pub last_used : (d ≡ 0 → ⊥) → i - 1 + 1 ≡ used_rows w
     unfolding free_hold
     last_used f =
-        sym this ∙ sym (last_here (hold_used w) (i - 1) (ap not (ne_eqb (hold_row w (i - 1)).place.directory 0 (λ y. f (e ∙ y)))))
+        add-one (i - 1) ∙ sym (last_here (hold_used w) (i - 1) (ap not (ne_eqb (hold_row w (i - 1)).place.directory 0 (λ y. f (e ∙ y)))))
         ∙ ap (last_below (hold_used w)) this ∙ g.same
 
-  pub none_used : {i : ℕ} → FreeFrom w i → i ≡ 0 → 0 ≡ used_rows w
-  none_used g z = sym (last_of_none (hold_used w)) ∙ ap (last_below (hold_used w)) (sym z) ∙ g.same
+  pub none_used : {i : ℕ} → FreeFrom w i → i ≤ 0 → 0 ≡ used_rows w
+  none_used {i} g h =
+      let z : 0 ≡ i = omega arith in
+      sym (last_of_none (hold_used w)) ∙ ap (last_below (hold_used w)) z ∙ g.same
 
   module _ {rows : ℕ} (e : rows ≡ used_rows w) where
     pub used_inside : rows ≤ hold_rows

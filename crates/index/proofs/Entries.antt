@@ -20,11 +20,11 @@ use Rattle.rows.specs.Blocks.{Named, block_of, place_of, name_of}
 use Rattle.rows.specs.Stands.{Stands, entry_row}
 use Rattle.rows.proofs.Fields.{entry_row_fits}
 use Rattle.rows.proofs.Parts.{entries_full}
-use Rattle.index.specs.Buckets.{last_below, Chained, Descent}
+use Rattle.index.specs.Buckets.{last_below, Chained, Asked, Last}
 use Rattle.index.specs.Indexed.{entry_buckets, place_bucket, entry_chains, row_at, row_found, node_in, Indexed}
 use Rattle.index.proofs.Apart.{Comparable, ApartChained, apart_starts, apart_past, apart_more, apart_twice, apart_ends, all_chained}
 use Rattle.index.proofs.Buckets.{last_within, last_passes, none_below}
-use Rattle.index.proofs.Descents.{descent_from_head}
+use Rattle.index.proofs.Descents.{bucket_chain, bucket_asked, last_passing}
 use Rattle.index.proofs.Places.{block_names, place_again}
 
 -- ONE ROW
@@ -62,11 +62,19 @@ into_bucket d b n u x p =
     let g : x.place.directory ≡ d = ap (λ (q : Place). q.directory) e in
     (ap not (with_directory x (λ z. u (sym g ∙ z))), ap₂ place_bucket g f)
 
--- the chain of a place begins at its bucket's head
-pub entry_descent : (d : ℕ) (b : Block) {entries : List Entry} {heads next : List ℕ} {i h : ℕ} → Chained (entry_chains entries) heads next i → Named b
-    → (d ≡ 0 → ⊥) → h ≡ place_bucket d b → h < entry_buckets
-    → Descent (entry_chains entries) (at (place_of d b)) next (get_or heads h 0) (place_bucket d b) i
-entry_descent d b c n u e s = descent_from_head c e s (into_bucket d b n u)
+-- the chain of a place, with the rows below i, begins at its bucket's head
+module _ (w : List ℕ) {heads next : List ℕ} {i : ℕ} (c : Chained (entry_chains (unpack w).entries) heads next i) {h : ℕ} (s : h < entry_buckets) where
+  -- whether a row is at a place may be asked of each
+  pub entry_asked : {may : ℕ → Type 0} → ((k : ℕ) → k < entry_rows → may k) → Asked may next (get_or heads h 0)
+  entry_asked f = bucket_asked _ _ (bucket_chain c s) (λ k l _. f k (omega (arith, c.inside)))
+
+  -- and its answers find the last
+  pub entry_last : (d : ℕ) (b : Block) → Named b → (d ≡ 0 → ⊥) → h ≡ place_bucket d b → {says : ℕ → Bool → Type 0} {found : ℕ}
+      → Last says next (get_or heads h 0) found → ((k : ℕ) (answer : Bool) → says k answer → answer ≡ row_at w (place_of d b) k)
+      → found ≡ last_below (row_at w (place_of d b)) i
+  entry_last d b n u e f told =
+      last_passing _ _ (bucket_chain c s) f (at (place_of d b)) (λ k answer _ _ a. told k answer a)
+      (λ x p. let its = into_bucket d b n u x p in (its.0, its.1 ∙ sym e))
 
 -- THE INDEX IS BUILT
 

@@ -1,5 +1,5 @@
 -- Chains of rows by bucket, for any table. A head and a link name a row by one more than its number, and 0 names none. Assumes nothing.
-use Rattle.std.specs.Prelude.{◌≡◌, Bool, true, false, ◌&&◌, List, ℕ, zero, suc, ◌≤◌, ◌<◌, eqb, length, get_or}
+use Rattle.std.specs.Prelude.{◌≡◌, Bool, true, false, ◌&&◌, List, ℕ, zero, suc, ◌≤◌, ◌<◌, eqb, length, get_or, Option, Some, None}
 
 -- one more than the last row below i that passes, 0 where none does
 unfoldable pub last_below : (ℕ → Bool) → ℕ → ℕ
@@ -34,9 +34,33 @@ module _ {A : Type 0} (t : Chains A) where
     pub heads_right : (b : ℕ) → b < t.size → get_or heads b 0 ≡ last_below (in_bucket b) i
     pub linked : Linked next i
 
-  -- the chain of bucket b gone down from `from`, over the rows below `limit`, in search of one that passes; only rows of the bucket do
-  pub record Descent (passes : A → Bool) (next : List ℕ) (from b limit : ℕ) : Type 0 where
-    pub inside : limit ≤ t.rows
-    pub linked : Linked next limit
-    pub start : from ≡ last_below (in_bucket b) limit
-    pub only : (x : A) → passes x ≡ true → (t.chosen x ≡ true) × (t.bucket x ≡ b)
+-- A CHAIN GONE DOWN
+
+-- one more than the row, 0 for none
+abbrev pub counted : Option ℕ → ℕ
+counted None = 0
+counted (Some row) = suc row
+
+-- the chain that begins at `from`: the last row below `limit` that is in it, and from each row the last before it
+pub record Chain (inside : ℕ → Bool) (next : List ℕ) (from limit : ℕ) : Type 0 where
+  pub within : limit ≤ length next
+  pub start : from ≡ last_below inside limit
+  pub linked : (k : ℕ) → k < limit → inside k ≡ true → get_or next k 0 ≡ last_below inside k
+
+-- the test may be asked of each row of a chain
+pub record Asked (may : ℕ → Type 0) (next : List ℕ) (from : ℕ) : Type 0 where
+  pub inside : ℕ → Bool
+  pub limit : ℕ
+  pub chain : Chain inside next from limit
+  pub each : (k : ℕ) → k < limit → inside k ≡ true → may k
+
+-- the test, asked of a chain's rows, says which of them are meant; only rows of the chain are
+pub record Reads (says : ℕ → Bool → Type 0) (inside : ℕ → Bool) (limit : ℕ) (meant : ℕ → Bool) : Type 0 where
+  pub told : (k : ℕ) → k < limit → inside k ≡ true → (answer : Bool) → says k answer → answer ≡ meant k
+  pub only : (k : ℕ) → meant k ≡ true → inside k ≡ true
+
+-- the last row of a chain that is meant
+abbrev pub Last : (ℕ → Bool → Type 0) → List ℕ → ℕ → ℕ → Type 0
+Last says next from found =
+    (inside : ℕ → Bool) (limit : ℕ) → Chain inside next from limit → (meant : ℕ → Bool) → Reads says inside limit meant
+    → found ≡ last_below meant limit

@@ -2,12 +2,13 @@
 use mathlib.Core.Path.{◌≡◌, refl, sym, ap, ◌∙◌}
 use mathlib.Core.Bool.{Bool, true, false, not}
 use mathlib.Core.List.{List}
-use Prim.Native.Nat.{ℕ, ◌+◌, ◌-◌, ◌%◌, ◌≤◌, ◌<◌}
+use Prim.Native.Nat.{ℕ, suc, ◌+◌, ◌-◌, ◌%◌, ◌≤◌, ◌<◌}
 use native.Mathlib.Omega.{arith}
-use native.Mathlib.Decide.{ℕ_discrete}
 use borrow.Author.Tests.{eqb-true, eq-eqb, ne_eqb}
 use lib.Dec.{eqb}
 use lib.ListN.{get_or, set, replicate}
+use Rattle.std.specs.Prelude.{Option, Some, None}
+use Rattle.std.specs.Option.{is_some}
 use Rattle.model.specs.Lists.{find, any}
 use Rattle.model.specs.Tables.{Process, no_process, free_process, is_process, listed, user_of, process_rows}
 use Rattle.model.specs.Sound.{same_process, processes_distinct}
@@ -19,10 +20,10 @@ use Rattle.laws.proofs.Searches.{find_missing}
 use Rattle.laws.proofs.Words.{ProcessFits, unpacked_fits}
 use Rattle.rows.specs.Stands.{Stands, process_row}
 use Rattle.rows.proofs.Parts.{processes_full}
-use Rattle.index.specs.Buckets.{last_below, Chained, Descent}
+use Rattle.index.specs.Buckets.{last_below, counted, Chained, Asked, Last}
 use Rattle.index.proofs.Apart.{Comparable, ApartChained, apart_starts, apart_past, apart_more, apart_twice, apart_ends, all_chained}
 use Rattle.index.proofs.Buckets.{last_within, last_passes, none_below}
-use Rattle.index.proofs.Descents.{descent_from_head}
+use Rattle.index.proofs.Descents.{bucket_chain, bucket_asked, last_passing}
 use Rattle.process_index.specs.Processes.{process_buckets, process_chains, row_of, ProcessesIndexed}
 
 -- a process of a number is that number's
@@ -39,13 +40,21 @@ with_number : (x : Process) → (x.number ≡ 0 → ⊥) → free_process x ≡ 
 unfolding free_process
 with_number x n = ne_eqb x.number 0 n
 
--- the chain of a number begins at its bucket's head; only rows of the bucket have the number
-pub number_descent : (p : ℕ) {processes : List Process} {heads next : List ℕ} {i h : ℕ} → Chained (process_chains processes) heads next i → (p ≡ 0 → ⊥)
-    → h ≡ p % process_buckets → h < process_buckets → Descent (process_chains processes) (is_process p) next (get_or heads h 0) (p % process_buckets) i
-number_descent p c u e s =
-    descent_from_head c e s (λ x its.
-    let n = numbered x its in
-    (ap not (with_number x (λ z. u (sym n ∙ z))), ap (λ y. y % process_buckets) n))
+-- the chain of a number, with the rows below i, begins at its bucket's head
+module _ (w : List ℕ) {heads next : List ℕ} {i : ℕ} (c : Chained (process_chains (unpack w).processes) heads next i) {h : ℕ} (s : h < process_buckets) where
+  -- whether a row has the number may be asked of each
+  pub number_asked : {may : ℕ → Type 0} → ((k : ℕ) → k < process_rows → may k) → Asked may next (get_or heads h 0)
+  number_asked f = bucket_asked _ _ (bucket_chain c s) (λ k l _. f k (omega (arith, c.inside)))
+
+  -- and its answers find the last; only rows of the bucket have the number
+  pub number_last : (p : ℕ) → (p ≡ 0 → ⊥) → h ≡ p % process_buckets → {says : ℕ → Bool → Type 0} {found : ℕ} → Last says next (get_or heads h 0) found
+      → ((k : ℕ) (answer : Bool) → says k answer → answer ≡ eqb (process_row w k).number p) → found ≡ last_below (row_of w p) i
+  unfolding is_process
+  number_last p u e f told =
+      last_passing _ _ (bucket_chain c s) f (is_process p) (λ k answer _ _ a. told k answer a)
+      (λ x its.
+      let n = numbered x its in
+      (ap not (with_number x (λ z. u (sym n ∙ z))), ap (λ y. y % process_buckets) n ∙ sym e))
 
 -- THE INDEX IS BUILT
 
@@ -98,45 +107,48 @@ module _ (w : List ℕ) {heads next : List ℕ} where
 
 -- A PROCESS LOOKED FOR BY IT
 
-module _ (w : List ℕ) (p : ℕ) {l : ℕ} (last : l ≡ last_below (row_of w p) process_rows) where
-  row_found : (l ≡ 0 → ⊥) → row_of w p (l - 1) ≡ true
-  row_found z = ap (λ x. row_of w p (x - 1)) last ∙ last_passes (row_of w p) process_rows (λ y. z (last ∙ y))
+module _ (w : List ℕ) (p : ℕ) where
+  module _ {row : ℕ} (last : suc row ≡ last_below (row_of w p) process_rows) where
+    its_number : row_of w p row ≡ true
+    its_number =
+        let here : last_below (row_of w p) process_rows - 1 ≡ row = omega arith in
+        rw here at (last_passes (row_of w p) process_rows (λ z. omega arith))
 
-  pub row_low : (l ≡ 0 → ⊥) → l - 1 < process_rows
-  row_low z = omega (arith, last_within (row_of w p) process_rows)
+    pub row_low : row < process_rows
+    row_low = omega (arith, last_within (row_of w p) process_rows)
 
-  row_there : (l ≡ 0 → ⊥) → process_row w (l - 1) ∈ (unpack w).processes
-  row_there z = at_in (unpack w).processes (l - 1) no_process (omega (arith, row_low z, processes_full w))
+    row_there : process_row w row ∈ (unpack w).processes
+    row_there = at_in (unpack w).processes row no_process (omega (arith, row_low, processes_full w))
 
-  none_listed : l ≡ 0 → any (is_process p) (unpack w).processes ≡ false
-  none_listed z =
-      none_by_place (is_process p) no_process (unpack w).processes (λ k h.
-      none_below (row_of w p) process_rows (sym last ∙ z) k (omega (arith, processes_full w)))
+    found_listed : true ≡ listed (unpack w).processes p
+    unfolding listed
+    found_listed = sym (in_any (is_process p) row_there its_number)
 
-  found_listed : (l ≡ 0 → ⊥) → true ≡ listed (unpack w).processes p
-  unfolding listed
-  found_listed z = sym (in_any (is_process p) (row_there z) (row_found z))
+    pub user_found : {n : ℕ} → (p ≡ 0 → ⊥) → processes_distinct (unpack w) ≡ true → n ≡ (process_row w row).user → n ≡ user_of (unpack w).processes p
+    unfolding user_of processes_distinct is_process same_process free_process
+    user_found u D f =
+        f ∙ ap (λ (x : Process). x.user) (sym (find_only free_process same_process (is_process p) no_process
+        (λ x h. with_number x (λ y. u (sym (numbered x h) ∙ y)))
+        (λ x y h k. eq-eqb x.number y.number (numbered x h ∙ sym (numbered y k)))
+        (unpack w).processes (process_row w row) D row_there its_number))
 
-  found_nowhere : l ≡ 0 → false ≡ listed (unpack w).processes p
-  unfolding listed
-  found_nowhere z = sym (none_listed z)
+  module _ (none : 0 ≡ last_below (row_of w p) process_rows) where
+    none_listed : any (is_process p) (unpack w).processes ≡ false
+    none_listed =
+        none_by_place (is_process p) no_process (unpack w).processes (λ k h.
+        none_below (row_of w p) process_rows (sym none) k (omega (arith, processes_full w)))
 
-  pub found_decides : not (eqb l 0) ≡ listed (unpack w).processes p
-  found_decides =
-      elim (ℕ_discrete l 0) [ yes z ↦ ap not (eq-eqb l 0 z) ∙ found_nowhere z | no z ↦ ap not (ne_eqb l 0 z) ∙ found_listed z ]
+    found_nowhere : false ≡ listed (unpack w).processes p
+    unfolding listed
+    found_nowhere = sym none_listed
 
-  pub no_user : l ≡ 0 → 0 ≡ user_of (unpack w).processes p
-  unfolding user_of
-  no_user z = sym (ap (λ (x : Process). x.user) (find_missing (is_process p) no_process (unpack w).processes (none_listed z)))
+    pub no_user : 0 ≡ user_of (unpack w).processes p
+    unfolding user_of
+    no_user = sym (ap (λ (x : Process). x.user) (find_missing (is_process p) no_process (unpack w).processes none_listed))
 
-  pub user_found : {n : ℕ} → (p ≡ 0 → ⊥) → processes_distinct (unpack w) ≡ true → (l ≡ 0 → ⊥) → n ≡ (process_row w (l - 1)).user
-      → n ≡ user_of (unpack w).processes p
-  unfolding user_of processes_distinct is_process same_process free_process
-  user_found u D z f =
-      f ∙ ap (λ (x : Process). x.user) (sym (find_only free_process same_process (is_process p) no_process
-      (λ x h. with_number x (λ y. u (sym (numbered x h) ∙ y)))
-      (λ x y h k. eq-eqb x.number y.number (numbered x h ∙ sym (numbered y k)))
-      (unpack w).processes (process_row w (l - 1)) D (row_there z) (row_found z)))
+  pub found_decides : (found : Option ℕ) → counted found ≡ last_below (row_of w p) process_rows → is_some found ≡ listed (unpack w).processes p
+  found_decides None none = found_nowhere none
+  found_decides (Some row) last = found_listed last
 
 -- number 0 is that of free rows alone, which have no user
 pub no_process_user : (w : List ℕ) {p : ℕ} → p ≡ 0 → 0 ≡ user_of (unpack w).processes p

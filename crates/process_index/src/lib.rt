@@ -3,13 +3,14 @@
 // write to the processes.
 ghost use Rattle.std.specs.Prelude.{◌≡◌, true, ◌<◌, ◌%◌, replicate};
 ghost use Rattle.model.specs.Sound.{processes_distinct};
-ghost use Rattle.model.specs.Tables.{process_rows, is_process, listed, user_of};
+ghost use Rattle.model.specs.Tables.{process_rows, listed, user_of};
 ghost use Rattle.model.specs.Words.{unpack};
 ghost use Rattle.rows.specs.Stands.{Stands};
-ghost use Rattle.index.specs.Buckets.{last_below, Descent};
-ghost use Rattle.process_index.specs.Processes.{process_buckets, process_chains, row_of, ProcessesIndexed};
+ghost use Rattle.index.specs.Buckets.{counted, last_below};
+ghost use Rattle.process_index.specs.Processes.{process_buckets, row_of, ProcessesIndexed};
 
-use rows::{PROCESS_ROWS, process_number, process_user, wide};
+use index::{last_in_chain, link_row};
+use rows::{PROCESS_ROWS, process_number, process_user};
 
 // How many chains there are.
 pub const PROCESS_BUCKETS: usize = 127;
@@ -23,19 +24,16 @@ pub fn index_processes(
     requires { (Stands words.now) × ((heads.old ≡ replicate process_buckets 0) × (next.old ≡ replicate process_rows 0)) }
     ensures { (result ≡ processes_distinct (unpack words.now)) × (result ≡ true → ProcessesIndexed words.now heads.new next.new) }
 {
-    let mut row = 0;
-    while row < PROCESS_ROWS {
+    for row in 0..PROCESS_ROWS {
         let number = process_number(words, row);
         if number != 0 {
             let bucket = bucket_of(number);
-            let from = heads[bucket];
-            if last_of(words, next, from, number, row) != 0 {
+            let alike = |other| process_number(words, other) == number;
+            if last_in_chain(next, heads[bucket], alike).is_some() {
                 return false;
             }
-            next[row] = from;
-            heads[bucket] = (row + 1) as u16;
+            link_row(heads, next, bucket, row);
         }
-        row += 1;
     }
     true
 }
@@ -49,7 +47,7 @@ pub fn is_in_index(
     requires { (ProcessesIndexed words.now heads.now next.now) × (process ≡ 0 → ⊥) }
     ensures { result ≡ listed (unpack words.now).processes process }
 {
-    find_in_index(words, heads, next, process) != 0
+    find_in_index(words, heads, next, process).is_some()
 }
 
 // The user of a process, 0 where it is not listed.
@@ -65,50 +63,29 @@ pub fn user_in_index(
     if process == 0 {
         return 0;
     }
-    let found = find_in_index(words, heads, next, process);
-    if found == 0 {
-        return 0;
+    match find_in_index(words, heads, next, process) {
+        Some(row) => process_user(words, row),
+        None => 0,
     }
-    process_user(words, found - 1)
 }
 
-// One more than the row of a process, 0 for none.
+// The row of a process.
 fn find_in_index(
     words: &[u32],
     heads: &[u16; PROCESS_BUCKETS],
     next: &[u16; PROCESS_ROWS],
     process: u16,
-) -> usize
+) -> Option<usize>
     requires { (ProcessesIndexed words.now heads.now next.now) × (process ≡ 0 → ⊥) }
-    ensures { result ≡ last_below (row_of words.now process) process_rows }
+    ensures { counted result ≡ last_below (row_of words.now process) process_rows }
 {
     let bucket = bucket_of(process);
-    last_of(words, next, heads[bucket], process, PROCESS_ROWS)
+    let listed = |row| process_number(words, row) == process;
+    last_in_chain(next, heads[bucket], listed)
 }
 
 fn bucket_of(process: u16) -> usize
     ensures { (result ≡ process % process_buckets) × (result < process_buckets) }
 {
-    process as usize % PROCESS_BUCKETS
-}
-
-// One more than the last row below `limit` with the number, along its chain; 0 for none.
-fn last_of(
-    words: &[u32],
-    next: &[u16; PROCESS_ROWS],
-    from: u16,
-    process: u16,
-    limit: usize,
-) -> usize
-    requires { (Stands words.now) × (Descent (process_chains (unpack words.now).processes) (is_process process) next.now from (process % process_buckets) limit) }
-    ensures { result ≡ last_below (row_of words.now process) limit }
-{
-    let mut found = wide(from);
-    while found != 0 {
-        if process_number(words, found - 1) == process {
-            return found;
-        }
-        found = wide(next[found - 1]);
-    }
-    0
+    usize::from(process) % PROCESS_BUCKETS
 }

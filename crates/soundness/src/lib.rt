@@ -33,10 +33,7 @@ pub fn sound_and_index(
     requires { (heads.old ≡ replicate entry_buckets 0) × (next.old ≡ replicate entry_rows 0) }
     ensures { (result ≡ sound words.now) × (result ≡ true → Indexed words.now heads.new next.new) }
 {
-    if !is_shaped(words) {
-        return false;
-    }
-    if !index_entries(words, heads, next) {
+    if !is_shaped(words) || !index_entries(words, heads, next) {
         return false;
     }
     keeps_rules(words)
@@ -47,10 +44,7 @@ fn keeps_rules(words: &[u32]) -> bool
     requires { Stands words.now }
     ensures { result ≡ (tree_rules (unpack words.now) && hold_rules (unpack words.now)) }
 {
-    if !tree_right(words) {
-        return false;
-    }
-    keeps_hold_rules(words)
+    tree_right(words) && keeps_hold_rules(words)
 }
 
 // The rules on holds go by an index of the processes.
@@ -64,11 +58,7 @@ fn keeps_hold_rules(words: &[u32]) -> bool
         return false;
     }
     let rows = used_hold_rows(words);
-    if !holds_placed(words, &heads, &next, rows) {
-        return false;
-    }
-    if !holds_apart(words, rows) {
-        return false;
-    }
-    ends_agree(words, &heads, &next, rows)
+    holds_placed(words, &heads, &next, rows)
+        && holds_apart(words, rows)
+        && ends_agree(words, &heads, &next, rows)
 }

@@ -9,4 +9,4 @@ use Rattle.hold_rules.proofs.bucket_of_hold.Goals as goal
 pub returns : goal.returns
 returns c =
     let sum = c.sum_of-sum.ensures.0 ∙ ap₂ sum_of c.hold_directory.ensures c.hold_name.ensures in
-    (ap₂ (λ n p. (n + p * 401) % hold_buckets) sum c.hold_process.ensures, search rules)
+    (ap₂ (λ n p. (n + p * 401) % hold_buckets) sum (c.from.ensures ∙ c.hold_process.ensures), search rules)

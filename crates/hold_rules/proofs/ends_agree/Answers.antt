@@ -4,7 +4,7 @@ use Prim.Native.Nat.{◌<◌}
 use native.Mathlib.Omega.{arith}
 use borrow.Author.Rules.{rules}
 use Rattle.model.specs.Tables.{hold_rows}
-use Rattle.hold_rules.proofs.Ends.{agreeing_starts, agreeing_past, end_descent, agreeing_more, agreeing_broken, agreeing_ends}
+use Rattle.hold_rules.proofs.Ends.{agreeing_starts, agreeing_past, end_chain, agreeing_more, agreeing_broken, agreeing_ends}
 use Rattle.hold_rules.proofs.Used.{used_inside}
 use Rattle.hold_rules.proofs.ends_agree.Goals as goal
 use Rattle.hold_rules.proofs.ends_agree.Goals.{then-hold_role-eq-END+else-not-agrees_with_last, else-hold_role-eq-END}
@@ -29,7 +29,7 @@ agrees_with_last-requires c =
       c.requires.0,
       (
         inside,
-        end_descent c.args.words.now c.loop-row.invariant inside c.hold_role.ensures c.if-hold_role-eq-END.true
+        end_chain c.args.words.now c.loop-row.invariant inside c.hold_role.ensures c.if-hold_role-eq-END.true
             bucket.0 bucket.1,
       ),
     )
@@ -40,11 +40,11 @@ returns-then-not-agrees_with_last c =
     agreeing_broken c.args.words.now c.loop-row.invariant inside c.hold_role.ensures c.if-hold_role-eq-END.true
     (sym c.agrees_with_last.ensures ∙ c.if-not-agrees_with_last.true)
 
-pub bounds-place_next-row : goal.bounds-place_next-row
-bounds-place_next-row c = let inside : c.loop-row.row < hold_rows = omega (arith, used_inside c.args.words.now c.requires.1) in search rules
-
-pub overflow_cast-place_heads : goal.overflow_cast-place_heads
-overflow_cast-place_heads c = let inside : c.loop-row.row < hold_rows = omega (arith, used_inside c.args.words.now c.requires.1) in search rules
+pub link_row-requires : goal.link_row-requires
+link_row-requires c =
+    let inside : c.loop-row.row < hold_rows = omega (arith, used_inside c.args.words.now c.requires.1) in
+    let bucket = c.bucket_of_place-bucket.ensures in
+    search rules
 
 pub loop-row-preserved : goal.loop-row-preserved
 loop-row-preserved c =
@@ -53,7 +53,7 @@ loop-row-preserved c =
     elim c.if-hold_role-eq-END.branch [
       | then-hold_role-eq-END+else-not-agrees_with_last w ↦
           let bucket = w.bucket_of_place-bucket.ensures in
-          rw (w.place_heads-is, w.place_next-is) (agreeing_more c.args.words.now c.loop-row.invariant inside role w.if-hold_role-eq-END.true
+          rw (w.place_heads-is ∙ w.link_row.ensures.0, w.place_next-is ∙ w.link_row.ensures.1) (agreeing_more c.args.words.now c.loop-row.invariant inside role w.if-hold_role-eq-END.true
           (sym w.agrees_with_last.ensures ∙ w.if-not-agrees_with_last.false) bucket.0 bucket.1)
       | else-hold_role-eq-END w ↦
           rw (w.place_heads-is, w.place_next-is) (agreeing_past c.args.words.now c.loop-row.invariant inside role w.if-hold_role-eq-END.false)

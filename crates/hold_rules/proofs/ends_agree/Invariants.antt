@@ -1,10 +1,6 @@
 -- `hold_rules::ends_agree` meets its contract: each end hold is compared with the last before it on its place, and then chained. Assumes nothing.
-use Prim.Native.Nat.{◌-◌}
 use Rattle.hold_rules.proofs.Ends.{Agreeing}
 use Rattle.hold_rules.proofs.ends_agree.Given as goal
 
 abbrev pub invariant-loop-row : goal.invariant-loop-row
 invariant-loop-row l = Agreeing l.words l.place_heads l.place_next l.row
-
-abbrev pub decreases-loop-row : goal.decreases-loop-row
-decreases-loop-row l = l.rows - l.row

@@ -1,27 +1,27 @@
 -- `hold_rules::holds_placed` meets its contract: hold after hold. Assumes nothing.
-use mathlib.Core.Path.{sym, ◌∙◌}
-use Prim.Native.Nat.{◌<◌}
+use mathlib.Core.Path.{◌≡◌, refl}
+use mathlib.Core.Bool.{true, false}
 use native.Mathlib.Omega.{arith}
+use Prim.Native.Nat.{◌<◌}
+use borrow.Author.Rules.{rules}
+use Rattle.std.proofs.lemmas.Iterator.{serves_from_Range, cases_from_all, YieldsList-from_range}
 use Rattle.model.specs.Tables.{hold_rows}
-use Rattle.hold_rules.proofs.Rules.{placed_none, placed_more, not_placed, all_placed}
+use Rattle.hold_rules.specs.Placed.{row_placed}
+use Rattle.hold_rules.proofs.Rules.{each_below, rows_decide}
 use Rattle.hold_rules.proofs.Used.{used_inside}
 use Rattle.hold_rules.proofs.holds_placed.Goals as goal
 
-pub loop-row-init : goal.loop-row-init
-loop-row-init c = placed_none c.args.words.now
-
-pub hold_placed-requires : goal.hold_placed-requires
-hold_placed-requires c =
-    let inside : c.loop-row.row < hold_rows = omega (arith, used_inside c.args.words.now c.requires.1) in
-    (c.requires.0, inside)
-
-pub returns-then-not-hold_placed : goal.returns-then-not-hold_placed
-returns-then-not-hold_placed c =
-    let inside : c.loop-row.row < hold_rows = omega (arith, used_inside c.args.words.now c.requires.1) in
-    not_placed c.args.words.now c.loop-row.row inside (sym c.hold_placed.ensures ∙ c.if-not-hold_placed.true)
-
-pub loop-row-preserved : goal.loop-row-preserved
-loop-row-preserved c = placed_more c.args.words.now c.loop-row.invariant (sym c.hold_placed.ensures ∙ c.if-not-hold_placed.false)
+pub all-requires-clause-callable : goal.all-requires-clause-callable
+all-requires-clause-callable c =
+    let indexed = c.requires.0 in
+    serves_from_Range (λ x q a. search rules)
+    (λ x a b. let inside : x < hold_rows = omega (arith, used_inside c.args.words.now c.requires.1) in search rules)
 
 pub returns : goal.returns
-returns c = all_placed c.args.words.now c.loop-row.invariant c.requires.1 c.loop-row-test.false
+returns c =
+    let words = c.args.words.now in
+    let rows = c.args.rows in
+    rows_decide words c.requires.1 c.all.result
+    (each_below (row_placed words) rows c.all.result
+    (cases_from_all _ _ _ (λ k. row_placed words k ≡ true) (λ k. row_placed words k ≡ false) c.all.ensures.ran
+    (YieldsList-from_range 0 rows rows refl (omega arith)) (λ x q k. search rules) (λ x q k. search rules)))

@@ -2,14 +2,16 @@
 use Rattle.hold_rules.proofs.Used.{free_from_starts, free_from_below, last_used, none_used}
 use Rattle.hold_rules.proofs.used_hold_rows.Goals as goal
 
-pub loop-rows-init : goal.loop-rows-init
-loop-rows-init c = free_from_starts c.args.words.now
+pub loop-row-init : goal.loop-row-init
+loop-row-init c = free_from_starts c.args.words.now
 
 pub returns-then-hold_directory-ne0 : goal.returns-then-hold_directory-ne0
-returns-then-hold_directory-ne0 c = last_used c.args.words.now c.loop-rows.invariant c.loop-rows-test.true c.hold_directory.ensures c.if-hold_directory-ne0.true
+returns-then-hold_directory-ne0 c =
+    last_used c.args.words.now c.loop-row.invariant c.loop-row-test.true c.hold_directory.ensures c.if-hold_directory-ne0.true
 
-pub loop-rows-preserved : goal.loop-rows-preserved
-loop-rows-preserved c = free_from_below c.args.words.now c.loop-rows.invariant c.loop-rows-test.true c.hold_directory.ensures c.if-hold_directory-ne0.false
+pub loop-row-preserved : goal.loop-row-preserved
+loop-row-preserved c =
+    free_from_below c.args.words.now c.loop-row.invariant c.loop-row-test.true c.hold_directory.ensures c.if-hold_directory-ne0.false
 
 pub returns : goal.returns
-returns c = none_used c.args.words.now c.loop-rows.invariant c.loop-rows-test.false
+returns c = none_used c.args.words.now c.loop-row.invariant c.loop-row-test.false

@@ -1,33 +1,46 @@
 -- `index::index_entries` meets its contract: each used row is looked for among the rows before it, and then chained. Assumes nothing.
 use mathlib.Core.Bool.{false≢true}
-use Rattle.index.proofs.Entries.{row_named, entry_descent, building_starts, building_past, building_more, building_twice, building_ends}
+use mathlib.Core.Path.{◌∙◌}
+use Prim.Native.Nat.{◌<◌}
+use native.Mathlib.Omega.{arith}
+use borrow.Author.Rules.{rules}
+use Rattle.index.proofs.Descents.{none_counted, some_counted}
+use Rattle.index.proofs.Entries.{row_named, entry_asked, entry_last, building_starts, building_past, building_more, building_twice, building_ends}
 use Rattle.index.proofs.index_entries.Goals as goal
-use Rattle.index.proofs.index_entries.Goals.{then-directory-ne0+else-last_at-ne0, else-directory-ne0}
+use Rattle.index.proofs.index_entries.Goals.{then-directory-ne0+else-is_some, else-directory-ne0}
 
 pub loop-row-init : goal.loop-row-init
 loop-row-init c = building_starts c.args.words.now c.requires.1.0 c.requires.1.1
 
-pub last_at-requires : goal.last_at-requires
-last_at-requires c =
-    let bucket = c.bucket_of-bucket.ensures in
-    let name = row_named c.args.words.now _ c.entry_name-name.ensures in
-    (c.requires.0, (name, entry_descent _ _ c.loop-row.invariant.chained name c.if-directory-ne0.true bucket.0 bucket.1))
+pub last_in_chain-requires : goal.last_in_chain-requires
+last_in_chain-requires c =
+    let stands = c.requires.0 in
+    let named = row_named c.args.words.now _ c.entry_name-name.ensures in
+    let small : 1024 < 9223372036854775808 = omega arith in
+    (small, entry_asked c.args.words.now c.loop-row.invariant.chained c.bucket_of-bucket.ensures.1 (λ k l. search rules))
 
-pub returns-then-last_at-ne0 : goal.returns-then-last_at-ne0
-returns-then-last_at-ne0 c = (
-  building_twice c.args.words.now c.loop-row.invariant c.loop-row-test.true c.entry_directory-directory.ensures
-      c.if-directory-ne0.true c.entry_name-name.ensures c.last_at.ensures c.if-last_at-ne0.true,
-  λ e. absurd (false≢true e),
-)
+pub returns-then-is_some : goal.returns-then-is_some
+returns-then-is_some c =
+    let bucket = c.bucket_of-bucket.ensures in
+    let named = row_named c.args.words.now _ c.entry_name-name.ensures in
+    let last = entry_last c.args.words.now c.loop-row.invariant.chained bucket.1 _ _ named c.if-directory-ne0.true bucket.0 c.last_in_chain.ensures
+    (λ k answer a. search rules) in (
+      building_twice c.args.words.now c.loop-row.invariant c.loop-row-test.true c.entry_directory-directory.ensures
+          c.if-directory-ne0.true c.entry_name-name.ensures last (some_counted _ c.if-is_some.ensures),
+      λ e. absurd (false≢true e),
+    )
 
 pub loop-row-preserved : goal.loop-row-preserved
 loop-row-preserved c =
     let directory = c.entry_directory-directory.ensures in
     elim c.if-directory-ne0.branch [
-      | then-directory-ne0+else-last_at-ne0 w ↦
+      | then-directory-ne0+else-is_some w ↦
           let bucket = w.bucket_of-bucket.ensures in
-          rw (w.heads-is, w.next-is) (building_more c.args.words.now c.loop-row.invariant c.loop-row-test.true directory w.if-directory-ne0.true
-          w.entry_name-name.ensures w.last_at.ensures w.if-last_at-ne0.false bucket.0 bucket.1)
+          let named = row_named c.args.words.now _ w.entry_name-name.ensures in
+          let last = entry_last c.args.words.now c.loop-row.invariant.chained bucket.1 _ _ named w.if-directory-ne0.true bucket.0 w.last_in_chain.ensures
+          (λ k answer a. search rules) in
+          rw (w.heads-is ∙ w.link_row.ensures.0, w.next-is ∙ w.link_row.ensures.1) (building_more c.args.words.now c.loop-row.invariant c.loop-row-test.true directory w.if-directory-ne0.true
+          w.entry_name-name.ensures last (none_counted _ w.if-is_some.ensures) bucket.0 bucket.1)
       | else-directory-ne0 w ↦
           rw (w.heads-is, w.next-is) (building_past c.args.words.now c.loop-row.invariant c.loop-row-test.true directory w.if-directory-ne0.false)
     ]

@@ -1,11 +1,6 @@
 -- `index::index_entries` meets its contract: each used row is looked for among the rows before it, and then chained. Assumes nothing.
-use Prim.Native.Nat.{◌-◌}
-use Rattle.model.specs.Tables.{entry_rows}
 use Rattle.index.proofs.Entries.{Building}
 use Rattle.index.proofs.index_entries.Given as goal
 
 abbrev pub invariant-loop-row : goal.invariant-loop-row
 invariant-loop-row l = Building l.words l.heads l.next l.row
-
-abbrev pub decreases-loop-row : goal.decreases-loop-row
-decreases-loop-row l = entry_rows - l.row

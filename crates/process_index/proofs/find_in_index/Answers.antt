@@ -1,11 +1,18 @@
 -- `process_index::find_in_index` meets its contract: the chain of the number's bucket is gone down. Assumes nothing.
-use Rattle.process_index.proofs.Processes.{number_descent}
+use Prim.Native.Nat.{◌<◌}
+use native.Mathlib.Omega.{arith}
+use borrow.Author.Rules.{rules}
+use Rattle.process_index.proofs.Processes.{number_asked, number_last}
 use Rattle.process_index.proofs.find_in_index.Goals as goal
 
-pub last_of-requires : goal.last_of-requires
-last_of-requires c =
-    let bucket = c.bucket_of-bucket.ensures in
-    (c.requires.0.stands, number_descent c.args.process c.requires.0.chained c.requires.1 bucket.0 bucket.1)
+pub last_in_chain-requires : goal.last_in_chain-requires
+last_in_chain-requires c =
+    let stands = c.requires.0.stands in
+    let small : 128 < 9223372036854775808 = omega arith in
+    (small, number_asked c.args.words.now c.requires.0.chained c.bucket_of-bucket.ensures.1 (λ k l. search rules))
 
 pub returns : goal.returns
-returns c = c.last_of.ensures
+returns c =
+    let bucket = c.bucket_of-bucket.ensures in
+    number_last c.args.words.now c.requires.0.chained bucket.1 c.args.process c.requires.1 bucket.0 c.last_in_chain.ensures
+    (λ k answer a. search rules)

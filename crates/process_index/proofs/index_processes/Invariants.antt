@@ -1,11 +1,6 @@
 -- `process_index::index_processes` meets its contract: each used row is looked for among the rows before it, and then chained. Assumes nothing.
-use Prim.Native.Nat.{◌-◌}
-use Rattle.model.specs.Tables.{process_rows}
 use Rattle.process_index.proofs.Processes.{Building}
 use Rattle.process_index.proofs.index_processes.Given as goal
 
 abbrev pub invariant-loop-row : goal.invariant-loop-row
 invariant-loop-row l = Building l.words l.heads l.next l.row
-
-abbrev pub decreases-loop-row : goal.decreases-loop-row
-decreases-loop-row l = process_rows - l.row
