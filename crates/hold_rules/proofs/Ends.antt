@@ -7,7 +7,7 @@ use native.Mathlib.Omega.{arith}
 use native.Mathlib.Decide.{dec_lt, ℕ_discrete}
 use borrow.Author.Tests.{eqb-true, eq-eqb, ne_eqb}
 use lib.Dec.{eqb}
-use lib.ListN.{length, get_or, set, replicate}
+use lib.ListN.{length, get_or}
 use Rattle.model.specs.Lists.{all}
 use Rattle.model.specs.Tables.{Hold, Process, no_hold, free_hold, hold_rows, end_role, same_place, user_of}
 use Rattle.model.specs.Sound.{each_used, is_end, agree, ends_of_one_user}
@@ -20,11 +20,11 @@ use Rattle.laws.proofs.Places.{same_place_self, same_place_equal}
 use Rattle.rows.specs.Stands.{hold_row}
 use Rattle.rows.proofs.Fields.{hold_row_fits}
 use Rattle.rows.proofs.Parts.{holds_full}
-use Rattle.index.specs.Buckets.{last_below, in_bucket, Chained, Chain, Asked, Last}
+use Rattle.index.specs.Buckets.{no_links, with_row, last_below, in_bucket, Chained, Chain, Asked, Last}
 use Rattle.index.proofs.Buckets.{last_within, last_passes, none_below, chained_none, chained_past, chained_more}
 use Rattle.index.proofs.Descents.{bucket_chain, bucket_asked, last_passing}
 use Rattle.hold_rules.specs.Used.{used_rows}
-use Rattle.hold_rules.specs.Chains.{hold_buckets, place_bucket, end_chains, end_on, end_at_row, user_of_row, last_agrees}
+use Rattle.hold_rules.specs.Chains.{hold_buckets, HoldIndex, EndsBefore, place_bucket, end_chains, end_on, end_at_row, user_of_row, last_agrees}
 use Rattle.hold_rules.proofs.Used.{free_behind}
 
 agree_swap : (processes : List Process) (x y : Hold) → agree processes x y ≡ true → agree processes y x ≡ true
@@ -77,20 +77,20 @@ rows_agree w j k = agree (unpack w).processes (hold_row w j) (hold_row w k)
 abbrev agrees_with_all : List ℕ → Hold → Bool
 agrees_with_all w x = free_hold x || all (agree (unpack w).processes x) (unpack w).holds
 
-pub record Agreeing (w heads next : List ℕ) (i : ℕ) : Type 0 where
-  pub chained : Chained (end_chains (unpack w).holds) heads next i
+pub record Agreeing (w : List ℕ) (x : HoldIndex) (i : ℕ) : Type 0 where
+  pub chained : Chained (end_chains (unpack w).holds) x.heads x.next i
   pub agreed : (j k : ℕ) → j < k → k < i → agree (unpack w).processes (hold_row w j) (hold_row w k) ≡ true
 
-module _ (w : List ℕ) {heads next : List ℕ} where
-  pub agreeing_starts : heads ≡ replicate hold_buckets 0 → next ≡ replicate hold_rows 0 → Agreeing w heads next 0
-  agreeing_starts e l =
+module _ (w : List ℕ) {x : HoldIndex} where
+  pub agreeing_starts : x ≡ no_links → Agreeing w x 0
+  agreeing_starts e =
       record {
-        chained = chained_none (end_chains (unpack w).holds) heads next e l;
+        chained = chained_none (end_chains (unpack w).holds) x.heads x.next (ap (λ (x : HoldIndex). x.heads) e) (ap (λ (x : HoldIndex). x.next) e);
         agreed = λ j k a b. absurd (let z : ⊥ = omega arith in z);
       }
 
   -- of any two rows before
-  all_agreed : {i : ℕ} → Agreeing w heads next i → (j k : ℕ) → j < i → k < i → rows_agree w j k ≡ true
+  all_agreed : {i : ℕ} → Agreeing w x i → (j k : ℕ) → j < i → k < i → rows_agree w j k ≡ true
   all_agreed g j k a b =
       elim (dec_lt j k) [
         | yes l ↦ g.agreed j k l b
@@ -101,19 +101,19 @@ module _ (w : List ℕ) {heads next : List ℕ} where
         ]
       ]
 
-  module _ {i : ℕ} (g : Agreeing w heads next i) (r : i < hold_rows) {n : ℕ} (e : n ≡ (hold_row w i).role) where
+  module _ {i : ℕ} (g : Agreeing w x i) (r : i < hold_rows) {n : ℕ} (e : n ≡ (hold_row w i).role) where
     -- all before agree, and row i with all before
     with_this : ((j : ℕ) → j < i → rows_agree w j i ≡ true) → (j k : ℕ) → j < k → k < i + 1 → rows_agree w j k ≡ true
     with_this h j k a b =
         elim (dec_lt k i) [ yes l ↦ g.agreed j k a l | no m ↦ (let q : k ≡ i = omega arith in ap (rows_agree w j) q ∙ h j (omega arith)) ]
 
     -- a row with no end hold agrees with all
-    pub agreeing_past : (n ≡ end_role → ⊥) → Agreeing w heads next (i + 1)
+    pub agreeing_past : (n ≡ end_role → ⊥) → Agreeing w x (i + 1)
     unfolding is_end
     agreeing_past m =
         let no_end : is_end (hold_row w i) ≡ false = ne_eqb (hold_row w i).role end_role (λ q. m (e ∙ q)) in
         record {
-          chained = chained_past (end_chains (unpack w).holds) heads next g.chained r no_end;
+          chained = chained_past (end_chains (unpack w).holds) x.heads x.next g.chained r no_end;
           agreed = with_this (λ j a. agree_when (unpack w).processes (hold_row w j) (hold_row w i) (λ p q s. clash q no_end));
         }
 
@@ -122,11 +122,10 @@ module _ (w : List ℕ) {heads next : List ℕ} where
       unfolding is_end
       this_end = eq-eqb (hold_row w i).role end_role (sym e ∙ one)
 
-      pub end_chain : {h : ℕ} → h ≡ place_bucket (hold_row w i).place → h < hold_buckets
-          → Chain (in_bucket (end_chains (unpack w).holds) (place_bucket (hold_row w i).place)) next (get_or heads h 0) i
-      end_chain {h} f s =
-          let its : ℕ → Type 0 = λ b. Chain (in_bucket (end_chains (unpack w).holds) b) next (get_or heads h 0) i in
-          subst its f (bucket_chain g.chained s)
+      pub ends_before : {h : ℕ} → h ≡ place_bucket (hold_row w i).place → h < hold_buckets → EndsBefore w x h i
+      ends_before {h} f s =
+          let its : ℕ → Type 0 = λ b. Chain (in_bucket (end_chains (unpack w).holds) b) x.next (get_or x.heads h 0) i in
+          record { inside = s; chain = subst its f (bucket_chain g.chained s) }
 
       abbrev last : ℕ
       last = last_below (end_at_row w i) i
@@ -153,11 +152,11 @@ module _ (w : List ℕ) {heads next : List ℕ} where
             agreed_users (unpack w).processes (hold_row w j) (hold_row w (last - 1)) (all_agreed g j (last - 1) a last_low) p last_end (s ∙ sym last_place)
 
       pub agreeing_more : last_agrees w i ≡ true → {h : ℕ} → h ≡ place_bucket (hold_row w i).place → h < hold_buckets
-          → Agreeing w (set heads h (i + 1)) (set next i (get_or heads h 0)) (i + 1)
+          → Agreeing w (with_row x h i) (i + 1)
       unfolding last_agrees
       agreeing_more t f s =
           record {
-            chained = chained_more (end_chains (unpack w).holds) heads next g.chained r this_end f s;
+            chained = chained_more (end_chains (unpack w).holds) x.heads x.next g.chained r this_end f s;
             agreed = with_this (λ j a. agree_when (unpack w).processes (hold_row w j) (hold_row w i) (λ p q v. one_user j a p v));
           }
         where
@@ -187,7 +186,7 @@ module _ (w : List ℕ) {heads next : List ℕ} where
               clash (or_right (eqb last 0) (eq-eqb (user_of_row w (last - 1)) (user_of_row w i)
               (agreed_users (unpack w).processes (hold_row w (last - 1)) (hold_row w i) y (last_end some) this_end (last_place some)))) b
 
-  pub agreeing_ends : {i rows : ℕ} → Agreeing w heads next i → rows ≡ used_rows w → rows ≤ i → true ≡ ends_of_one_user (unpack w)
+  pub agreeing_ends : {i rows : ℕ} → Agreeing w x i → rows ≡ used_rows w → rows ≤ i → true ≡ ends_of_one_user (unpack w)
   unfolding ends_of_one_user each_used
   agreeing_ends {i} g e h =
       sym (each_passes (agrees_with_all w) (each_by_place (unpack w).holds no_hold (λ j a.

@@ -5,18 +5,18 @@ use mathlib.Core.List.{List}
 use Prim.Native.Nat.{ℕ, ◌+◌, ◌-◌, ◌*◌, ◌%◌, ◌≤◌, ◌<◌}
 use native.Mathlib.Omega.{arith}
 use borrow.Author.Tests.{eq-eqb, ne_eqb}
-use lib.ListN.{get_or, set, replicate}
+use lib.ListN.{get_or}
 use Rattle.model.specs.Tables.{Place, Hold, free_hold, hold_rows}
 use Rattle.model.specs.Sound.{same_hold, holds_distinct}
 use Rattle.model.specs.Words.{unpack}
 use Rattle.laws.proofs.Places.{same_hold_one, free_together}
 use Rattle.rows.specs.Stands.{hold_row}
 use Rattle.rows.proofs.Parts.{holds_full}
-use Rattle.index.specs.Buckets.{last_below, Asked, Last}
+use Rattle.index.specs.Buckets.{no_links, with_row, last_below, Asked, Last}
 use Rattle.index.proofs.Apart.{Comparable, ApartChained, apart_starts, apart_past, apart_more, apart_twice, apart_behind, apart_ends}
 use Rattle.index.proofs.Descents.{bucket_chain, bucket_asked, last_passing}
 use Rattle.hold_rules.specs.Used.{used_rows}
-use Rattle.hold_rules.specs.Chains.{hold_buckets, place_sum, hold_bucket, hold_chains, same_as_row}
+use Rattle.hold_rules.specs.Chains.{hold_buckets, HoldIndex, place_sum, hold_bucket, hold_chains, same_as_row}
 use Rattle.hold_rules.proofs.Used.{free_behind}
 
 -- the same hold is of one bucket: place and process alone decide
@@ -29,15 +29,15 @@ comparable : (w : List ℕ) → Comparable (hold_chains (unpack w).holds) free_h
 comparable w = record { full = holds_full w; used = λ x. refl; together = free_together }
 
 -- what holds before row i is looked at
-abbrev pub Comparing : List ℕ → List ℕ → List ℕ → ℕ → Type 0
-Comparing w heads next i = ApartChained (hold_chains (unpack w).holds) free_hold same_hold heads next i
+abbrev pub Comparing : List ℕ → HoldIndex → ℕ → Type 0
+Comparing w x i = ApartChained (hold_chains (unpack w).holds) free_hold same_hold x.heads x.next i
 
-module _ (w : List ℕ) {heads next : List ℕ} where
-  pub comparing_starts : heads ≡ replicate hold_buckets 0 → next ≡ replicate hold_rows 0 → Comparing w heads next 0
-  comparing_starts = apart_starts (comparable w)
+module _ (w : List ℕ) {x : HoldIndex} where
+  pub comparing_starts : x ≡ no_links → Comparing w x 0
+  comparing_starts e = apart_starts (comparable w) (ap (λ (x : HoldIndex). x.heads) e) (ap (λ (x : HoldIndex). x.next) e)
 
-  module _ {i : ℕ} (g : Comparing w heads next i) (r : i < hold_rows) {d : ℕ} (e : d ≡ (hold_row w i).place.directory) where
-    pub comparing_past : d ≡ 0 → Comparing w heads next (i + 1)
+  module _ {i : ℕ} (g : Comparing w x i) (r : i < hold_rows) {d : ℕ} (e : d ≡ (hold_row w i).place.directory) where
+    pub comparing_past : d ≡ 0 → Comparing w x (i + 1)
     unfolding free_hold
     comparing_past z = apart_past (comparable w) g r (eq-eqb (hold_row w i).place.directory 0 (sym e ∙ z))
 
@@ -48,10 +48,10 @@ module _ (w : List ℕ) {heads next : List ℕ} where
 
       -- only rows of its bucket have the row's hold: whether a row has it may be asked of each, and the answers find the last
       module _ {h : ℕ} (f : h ≡ hold_bucket (hold_row w i)) (s : h < hold_buckets) where
-        pub same_asked : {may : ℕ → Type 0} → ((k : ℕ) → k < hold_rows → may k) → Asked may next (get_or heads h 0)
+        pub same_asked : {may : ℕ → Type 0} → ((k : ℕ) → k < hold_rows → may k) → Asked may x.next (get_or x.heads h 0)
         same_asked m = bucket_asked _ _ (bucket_chain g.chained s) (λ k l _. m k (omega (arith, l)))
 
-        pub same_last : {says : ℕ → Bool → Type 0} {found : ℕ} → Last says next (get_or heads h 0) found
+        pub same_last : {says : ℕ → Bool → Type 0} {found : ℕ} → Last says x.next (get_or x.heads h 0) found
             → ((k : ℕ) (answer : Bool) → says k answer → answer ≡ same_as_row w i k) → found ≡ last_below (same_as_row w i) i
         same_last found told =
             last_passing _ _ (bucket_chain g.chained s) found (λ x. same_hold x (hold_row w i)) (λ k answer _ _ a. told k answer a)
@@ -59,18 +59,18 @@ module _ (w : List ℕ) {heads next : List ℕ} where
 
       module _ {l : ℕ} (last : l ≡ last_below (same_as_row w i) i) where
         pub comparing_more : l ≡ 0 → {h : ℕ} → h ≡ hold_bucket (hold_row w i) → h < hold_buckets
-            → Comparing w (set heads h (i + 1)) (set next i (get_or heads h 0)) (i + 1)
+            → Comparing w (with_row x h i) (i + 1)
         comparing_more z f s = apart_more (comparable w) g r this_used last z f s
 
         pub comparing_twice : (l ≡ 0 → ⊥) → false ≡ holds_distinct (unpack w)
         unfolding holds_distinct
         comparing_twice = apart_twice (comparable w) g r this_used last
 
-  pub comparing_ends : {i rows : ℕ} → Comparing w heads next i → rows ≡ used_rows w → rows ≤ i → true ≡ holds_distinct (unpack w)
+  pub comparing_ends : {i rows : ℕ} → Comparing w x i → rows ≡ used_rows w → rows ≤ i → true ≡ holds_distinct (unpack w)
   unfolding holds_distinct
   comparing_ends {i} g e h =
       let r = g.chained.inside in
       let end : hold_rows ≤ hold_rows = omega arith in
-      let all : Comparing w heads next hold_rows
+      let all : Comparing w x hold_rows
       = apart_behind (comparable w) (hold_rows - i) (omega arith) (λ k a b. free_behind w e k (omega arith) b) g in
       apart_ends (comparable w) all end

@@ -1,11 +1,12 @@
 -- The chains by which the test of soundness compares holds: of used rows by place and process, of end holds by place. Assumes nothing.
-use Rattle.std.specs.Prelude.{Bool, not, ◌&&◌, ◌||◌, List, ℕ, ◌+◌, ◌-◌, ◌*◌, ◌%◌, eqb}
+use Rattle.std.specs.Prelude.{Bool, not, ◌&&◌, ◌||◌, List, ℕ, ◌+◌, ◌-◌, ◌*◌, ◌%◌, ◌<◌, eqb, get_or}
 use Rattle.model.specs.Tables.{Place, Hold, no_hold, free_hold, hold_rows, same_place, user_of}
 use Rattle.model.specs.Sound.{same_hold, is_end}
 use Rattle.model.specs.Words.{unpack}
 use Rattle.rows.specs.Blocks.{block_of}
 use Rattle.rows.specs.Stands.{hold_row}
-use Rattle.index.specs.Buckets.{last_below, Chains}
+use Rattle.index.specs.declared.Links.{Links}
+use Rattle.index.specs.Buckets.{last_below, in_bucket, Chains, Chain}
 use Rattle.index.specs.Indexed.{sum_of}
 
 -- how many chains there are
@@ -14,6 +15,10 @@ hold_buckets = 509
 
 abbrev pub place_sum : Place → ℕ
 place_sum q = sum_of q.directory (block_of q.name)
+
+-- the heads and links of holds
+abbrev pub HoldIndex : Type 0
+HoldIndex = Links hold_buckets hold_rows
 
 -- USED HOLDS
 
@@ -51,6 +56,11 @@ end_chains holds =
       size = hold_buckets;
       rows = hold_rows;
     }
+
+-- a bucket's chain leads to the end holds before row i that may be on its place
+pub record EndsBefore (w : List ℕ) (x : HoldIndex) (bucket i : ℕ) : Type 0 where
+  pub inside : bucket < hold_buckets
+  pub chain : Chain (in_bucket (end_chains (unpack w).holds) (place_bucket (hold_row w i).place)) x.next (get_or x.heads bucket 0) i
 
 abbrev pub end_on : Place → Hold → Bool
 end_on q x = is_end x && same_place x.place q

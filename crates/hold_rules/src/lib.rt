@@ -6,22 +6,22 @@ ghost use Rattle.model.specs.Tables.{same_place, hold_rows};
 ghost use Rattle.model.specs.Sound.{same_hold, holds_in_directories, holds_of_listed, holds_distinct, ends_of_one_user};
 ghost use Rattle.model.specs.Words.{unpack};
 ghost use Rattle.rows.specs.Stands.{Stands, hold_row};
-ghost use Rattle.index.specs.Buckets.{in_bucket, Chain};
 ghost use Rattle.process_index.specs.Processes.{ProcessesIndexed};
 ghost use Rattle.hold_rules.specs.Used.{used_rows};
 ghost use Rattle.hold_rules.specs.Placed.{row_placed};
-ghost use Rattle.hold_rules.specs.Chains.{hold_buckets, hold_bucket, place_bucket, end_chains, last_agrees};
+ghost use Rattle.hold_rules.specs.Chains.{hold_buckets, hold_bucket, place_bucket, EndsBefore, last_agrees};
 
-use index::{last_in_chain, link_row, sum_of};
-use process_index::{PROCESS_BUCKETS, is_in_index, user_in_index};
+use index::{Links, sum_of};
+use process_index::{ProcessIndex, is_in_index, user_in_index};
 use rows::{
-    DIRECTORY, END, HOLD_ROWS, PROCESS_ROWS, hold_directory, hold_name, hold_process, hold_role,
-    node_kind,
+    DIRECTORY, END, HOLD_ROWS, hold_directory, hold_name, hold_process, hold_role, node_kind,
 };
 use search::hold_is_on;
 
 // How many chains there are.
 const HOLD_BUCKETS: usize = 509;
+
+type HoldIndex = Links<HOLD_BUCKETS, HOLD_ROWS>;
 
 // One more than the last row with a hold, 0 for none. Holds go to the lowest free row, so that most free ones are behind it.
 pub fn used_hold_rows(words: &[u32]) -> usize
@@ -37,16 +37,11 @@ pub fn used_hold_rows(words: &[u32]) -> usize
 }
 
 // Whether each hold is in a directory and of a listed process.
-pub fn holds_placed(
-    words: &[u32],
-    heads: &[u16; PROCESS_BUCKETS],
-    next: &[u16; PROCESS_ROWS],
-    rows: usize,
-) -> bool
-    requires { (ProcessesIndexed words.now heads.now next.now) × (rows ≡ used_rows words.now) }
+pub fn holds_placed(words: &[u32], index: &ProcessIndex, rows: usize) -> bool
+    requires { (ProcessesIndexed words.now index.now) × (rows ≡ used_rows words.now) }
     ensures { result ≡ (holds_in_directories (unpack words.now) && holds_of_listed (unpack words.now)) }
 {
-    (0..rows).all(|row| hold_placed(words, heads, next, row))
+    (0..rows).all(|row| hold_placed(words, index, row))
 }
 
 // Whether no hold stands in two rows. The chains go by process too, so that many processes on one place make no long one.
@@ -54,53 +49,40 @@ pub fn holds_apart(words: &[u32], rows: usize) -> bool
     requires { (Stands words.now) × (rows ≡ used_rows words.now) }
     ensures { result ≡ holds_distinct (unpack words.now) }
 {
-    let mut heads = [0u16; HOLD_BUCKETS];
-    let mut next = [0u16; HOLD_ROWS];
+    let mut holds = HoldIndex::new();
     for row in 0..rows {
         if hold_directory(words, row) != 0 {
             let bucket = bucket_of_hold(words, row);
             let same = |other| is_same(words, other, row);
-            if last_in_chain(&next, heads[bucket], same).is_some() {
+            if holds.last_in_chain(bucket, same).is_some() {
                 return false;
             }
-            link_row(&mut heads, &mut next, bucket, row);
+            holds.link_row(bucket, row);
         }
     }
     true
 }
 
 // Whether all end holds on one place are of one user. Each is compared with the last before it alone: those before agree.
-pub fn ends_agree(
-    words: &[u32],
-    heads: &[u16; PROCESS_BUCKETS],
-    next: &[u16; PROCESS_ROWS],
-    rows: usize,
-) -> bool
-    requires { (ProcessesIndexed words.now heads.now next.now) × (rows ≡ used_rows words.now) }
+pub fn ends_agree(words: &[u32], index: &ProcessIndex, rows: usize) -> bool
+    requires { (ProcessesIndexed words.now index.now) × (rows ≡ used_rows words.now) }
     ensures { result ≡ ends_of_one_user (unpack words.now) }
 {
-    let mut place_heads = [0u16; HOLD_BUCKETS];
-    let mut place_next = [0u16; HOLD_ROWS];
+    let mut ends = HoldIndex::new();
     for row in 0..rows {
         if hold_role(words, row) == END {
             let bucket = bucket_of_place(words, row);
-            let from = place_heads[bucket];
-            if !agrees_with_last(words, heads, next, &place_next, from, row) {
+            if !agrees_with_last(words, index, &ends, bucket, row) {
                 return false;
             }
-            link_row(&mut place_heads, &mut place_next, bucket, row);
+            ends.link_row(bucket, row);
         }
     }
     true
 }
 
-fn hold_placed(
-    words: &[u32],
-    heads: &[u16; PROCESS_BUCKETS],
-    next: &[u16; PROCESS_ROWS],
-    row: usize,
-) -> bool
-    requires { (ProcessesIndexed words.now heads.now next.now) × (row < hold_rows) }
+fn hold_placed(words: &[u32], index: &ProcessIndex, row: usize) -> bool
+    requires { (ProcessesIndexed words.now index.now) × (row < hold_rows) }
     ensures { result ≡ row_placed words.now row }
 {
     let directory = hold_directory(words, row);
@@ -114,7 +96,7 @@ fn hold_placed(
     if process == 0 {
         return false;
     }
-    is_in_index(words, heads, next, process)
+    is_in_index(words, index, process)
 }
 
 fn bucket_of_place(words: &[u32], row: usize) -> usize
@@ -137,21 +119,20 @@ fn bucket_of_hold(words: &[u32], row: usize) -> usize
 // Whether no end hold on the place is before `row`, or the last is of the same user.
 fn agrees_with_last(
     words: &[u32],
-    heads: &[u16; PROCESS_BUCKETS],
-    next: &[u16; PROCESS_ROWS],
-    links: &[u16; HOLD_ROWS],
-    from: u16,
+    index: &ProcessIndex,
+    ends: &HoldIndex,
+    bucket: usize,
     row: usize,
 ) -> bool
-    requires { (ProcessesIndexed words.now heads.now next.now) × ((row < hold_rows) × (Chain (in_bucket (end_chains (unpack words.now).holds) (place_bucket (hold_row words.now row).place)) links.now from row)) }
+    requires { (ProcessesIndexed words.now index.now) × ((row < hold_rows) × (EndsBefore words.now ends.now bucket row)) }
     ensures { result ≡ last_agrees words.now row }
 {
     let there = |other| on_same_place(words, other, row);
-    let Some(last) = last_in_chain(links, from, there) else {
+    let Some(last) = ends.last_in_chain(bucket, there) else {
         return true;
     };
-    let user = user_in_index(words, heads, next, hold_process(words, last));
-    user == user_in_index(words, heads, next, hold_process(words, row))
+    let user = user_in_index(words, index, hold_process(words, last));
+    user == user_in_index(words, index, hold_process(words, row))
 }
 
 fn on_same_place(words: &[u32], a: usize, b: usize) -> bool

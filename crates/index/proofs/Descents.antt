@@ -75,7 +75,13 @@ module _ {says : ℕ → Bool → Type 0} {next : List ℕ} {from : ℕ} where
       let none : found ≡ 0 = omega arith in
       sym (last_of_none meant) ∙ ap (last_below meant) (sym none) ∙ g.same c r
 
--- whether a row was found, by the number that counts it
+-- a row and none, by the number that counts them
+pub counted_one : (a b : Option ℕ) → counted a ≡ counted b → a ≡ b
+counted_one None None e = refl
+counted_one None (Some row) e = absurd (omega arith)
+counted_one (Some row) None e = absurd (omega arith)
+counted_one (Some row) (Some other) e = let same : row ≡ other = omega arith in ap Some same
+
 pub none_counted : (found : Option ℕ) → false ≡ is_some found → counted found ≡ 0
 none_counted None e = refl
 none_counted (Some row) e = absurd (false≢true e)

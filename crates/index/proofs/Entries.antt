@@ -6,7 +6,7 @@ use Prim.Native.Nat.{ℕ, zero, suc, ◌+◌, ◌-◌, ◌≤◌, ◌<◌}
 use native.Mathlib.Omega.{arith}
 use borrow.Author.Tests.{eq-eqb, ne_eqb}
 use lib.Dec.{eqb}
-use lib.ListN.{get_or, set, replicate}
+use lib.ListN.{get_or}
 use Rattle.model.specs.Tables.{Place, Entry, no_entry, free_entry, at, lookup, entry_rows}
 use Rattle.model.specs.Sound.{same_entry, entries_distinct}
 use Rattle.model.specs.Words.{unpack}
@@ -20,8 +20,8 @@ use Rattle.rows.specs.Blocks.{Named, block_of, place_of, name_of}
 use Rattle.rows.specs.Stands.{Stands, entry_row}
 use Rattle.rows.proofs.Fields.{entry_row_fits}
 use Rattle.rows.proofs.Parts.{entries_full}
-use Rattle.index.specs.Buckets.{last_below, Chained, Asked, Last}
-use Rattle.index.specs.Indexed.{entry_buckets, place_bucket, entry_chains, row_at, row_found, node_in, Indexed}
+use Rattle.index.specs.Buckets.{last_below, no_links, with_row, Chained, Asked, Last}
+use Rattle.index.specs.Indexed.{entry_buckets, Index, place_bucket, entry_chains, row_at, row_found, node_in, Indexed}
 use Rattle.index.proofs.Apart.{Comparable, ApartChained, apart_starts, apart_past, apart_more, apart_twice, apart_ends, all_chained}
 use Rattle.index.proofs.Buckets.{last_within, last_passes, none_below}
 use Rattle.index.proofs.Descents.{bucket_chain, bucket_asked, last_passing}
@@ -88,16 +88,16 @@ comparable w =
     }
 
 -- what holds before row i is looked at
-abbrev pub Building : List ℕ → List ℕ → List ℕ → ℕ → Type 0
-Building w heads next i = ApartChained (entry_chains (unpack w).entries) free_entry same_entry heads next i
+abbrev pub Building : List ℕ → Index → ℕ → Type 0
+Building w x i = ApartChained (entry_chains (unpack w).entries) free_entry same_entry x.heads x.next i
 
-module _ (w : List ℕ) {heads next : List ℕ} where
-  pub building_starts : heads ≡ replicate entry_buckets 0 → next ≡ replicate entry_rows 0 → Building w heads next 0
-  building_starts = apart_starts (comparable w)
+module _ (w : List ℕ) {x : Index} where
+  pub building_starts : x ≡ no_links → Building w x 0
+  building_starts e = apart_starts (comparable w) (ap (λ (x : Index). x.heads) e) (ap (λ (x : Index). x.next) e)
 
-  module _ {i : ℕ} (g : Building w heads next i) (r : i < entry_rows) {d : ℕ} (e : d ≡ (entry_row w i).place.directory) where
+  module _ {i : ℕ} (g : Building w x i) (r : i < entry_rows) {d : ℕ} (e : d ≡ (entry_row w i).place.directory) where
     -- a free row is like none before it
-    pub building_past : d ≡ 0 → Building w heads next (i + 1)
+    pub building_past : d ≡ 0 → Building w x (i + 1)
     building_past z = apart_past (comparable w) g r (without_directory (entry_row w i) (sym e ∙ z))
 
     module _ (used : d ≡ 0 → ⊥) {b : Block} (f : b ≡ block_of (entry_row w i).place.name) {l : ℕ}
@@ -111,7 +111,7 @@ module _ (w : List ℕ) {heads next : List ℕ} where
 
       -- a used row that none before it is like
       pub building_more : l ≡ 0 → {h : ℕ} → h ≡ place_bucket d b → h < entry_buckets
-          → Building w (set heads h (i + 1)) (set next i (get_or heads h 0)) (i + 1)
+          → Building w (with_row x h i) (i + 1)
       building_more z p s = apart_more (comparable w) g r this_used same_last z (p ∙ ap₂ place_bucket e f) s
 
       -- a used row that one before it is like
@@ -119,8 +119,8 @@ module _ (w : List ℕ) {heads next : List ℕ} where
       unfolding entries_distinct
       building_twice = apart_twice (comparable w) g r this_used same_last
 
-  pub building_ends : {i : ℕ} → Stands w → Building w heads next i → entry_rows ≤ i
-      → (true ≡ entries_distinct (unpack w)) × (◌≡◌ {A = Bool} true true → Indexed w heads next)
+  pub building_ends : {i : ℕ} → Stands w → Building w x i → entry_rows ≤ i
+      → (true ≡ entries_distinct (unpack w)) × (◌≡◌ {A = Bool} true true → Indexed w x)
   unfolding entries_distinct
   building_ends s g h =
       let d = apart_ends (comparable w) g h in

@@ -1,5 +1,6 @@
 -- Chains of rows by bucket, for any table. A head and a link name a row by one more than its number, and 0 names none. Assumes nothing.
-use Rattle.std.specs.Prelude.{◌≡◌, Bool, true, false, ◌&&◌, List, ℕ, zero, suc, ◌≤◌, ◌<◌, eqb, length, get_or, Option, Some, None}
+use Rattle.std.specs.Prelude.{◌≡◌, Bool, true, false, ◌&&◌, List, ℕ, zero, suc, ◌+◌, ◌≤◌, ◌<◌, eqb, length, get_or, set, replicate, Option, Some, None}
+use Rattle.index.specs.declared.Links.{Links}
 
 -- one more than the last row below i that passes, 0 where none does
 unfoldable pub last_below : (ℕ → Bool) → ℕ → ℕ
@@ -33,6 +34,16 @@ module _ {A : Type 0} (t : Chains A) where
     pub next_long : length next ≡ t.rows
     pub heads_right : (b : ℕ) → b < t.size → get_or heads b 0 ≡ last_below (in_bucket b) i
     pub linked : Linked next i
+
+-- HEADS AND LINKS
+
+-- no row is chained
+abbrev pub no_links : {size rows : ℕ} → Links size rows
+no_links {size} {rows} = record { heads = replicate size 0; next = replicate rows 0 }
+
+-- a row put at the head of a bucket's chain
+abbrev pub with_row : {size rows : ℕ} → Links size rows → ℕ → ℕ → Links size rows
+with_row x bucket row = record { heads = set x.heads bucket (row + 1); next = set x.next row (get_or x.heads bucket 0) }
 
 -- A CHAIN GONE DOWN
 

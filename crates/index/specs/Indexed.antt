@@ -6,11 +6,16 @@ use Rattle.model.specs.Sound.{entries_distinct}
 use Rattle.rows.specs.declared.Block.{Block}
 use Rattle.rows.specs.Blocks.{block_of}
 use Rattle.rows.specs.Stands.{Stands, entry_row}
+use Rattle.index.specs.declared.Links.{Links}
 use Rattle.index.specs.Buckets.{last_below, Chains, Chained}
 
 -- how many chains there are
 abbrev pub entry_buckets : ℕ
 entry_buckets = 1021
+
+-- the heads and links of the entries
+abbrev pub Index : Type 0
+Index = Links entry_buckets entry_rows
 
 -- the sum that buckets go by; any function of a directory and a name would do
 unfoldable pub sum_of : ℕ → Block → ℕ
@@ -44,7 +49,7 @@ node_in w zero = 0
 node_in w (suc row) = (entry_row w row).node
 
 -- the whole index, with what makes a place's last row its only one
-pub record Indexed (w heads next : List ℕ) : Type 0 where
+pub record Indexed (w : List ℕ) (x : Index) : Type 0 where
   pub stands : Stands w
-  pub chained : Chained (entry_chains (unpack w).entries) heads next entry_rows
+  pub chained : Chained (entry_chains (unpack w).entries) x.heads x.next entry_rows
   pub distinct : entries_distinct (unpack w) ≡ true

@@ -6,7 +6,7 @@ use Prim.Native.Nat.{ℕ, suc, ◌+◌, ◌-◌, ◌%◌, ◌≤◌, ◌<◌}
 use native.Mathlib.Omega.{arith}
 use borrow.Author.Tests.{eqb-true, eq-eqb, ne_eqb}
 use lib.Dec.{eqb}
-use lib.ListN.{get_or, set, replicate}
+use lib.ListN.{get_or}
 use Rattle.std.specs.Prelude.{Option, Some, None}
 use Rattle.std.specs.Option.{is_some}
 use Rattle.model.specs.Lists.{find, any}
@@ -20,11 +20,11 @@ use Rattle.laws.proofs.Searches.{find_missing}
 use Rattle.laws.proofs.Words.{ProcessFits, unpacked_fits}
 use Rattle.rows.specs.Stands.{Stands, process_row}
 use Rattle.rows.proofs.Parts.{processes_full}
-use Rattle.index.specs.Buckets.{last_below, counted, Chained, Asked, Last}
+use Rattle.index.specs.Buckets.{no_links, with_row, last_below, counted, Chained, Asked, Last}
 use Rattle.index.proofs.Apart.{Comparable, ApartChained, apart_starts, apart_past, apart_more, apart_twice, apart_ends, all_chained}
 use Rattle.index.proofs.Buckets.{last_within, last_passes, none_below}
 use Rattle.index.proofs.Descents.{bucket_chain, bucket_asked, last_passing}
-use Rattle.process_index.specs.Processes.{process_buckets, process_chains, row_of, ProcessesIndexed}
+use Rattle.process_index.specs.Processes.{process_buckets, ProcessIndex, process_chains, row_of, ProcessesIndexed}
 
 -- a process of a number is that number's
 numbered : {p : ℕ} (x : Process) → is_process p x ≡ true → x.number ≡ p
@@ -68,16 +68,16 @@ comparable w =
     }
 
 -- what holds before row i is looked at
-abbrev pub Building : List ℕ → List ℕ → List ℕ → ℕ → Type 0
-Building w heads next i = ApartChained (process_chains (unpack w).processes) free_process same_process heads next i
+abbrev pub Building : List ℕ → ProcessIndex → ℕ → Type 0
+Building w x i = ApartChained (process_chains (unpack w).processes) free_process same_process x.heads x.next i
 
-module _ (w : List ℕ) {heads next : List ℕ} where
-  pub building_starts : heads ≡ replicate process_buckets 0 → next ≡ replicate process_rows 0 → Building w heads next 0
-  building_starts = apart_starts (comparable w)
+module _ (w : List ℕ) {x : ProcessIndex} where
+  pub building_starts : x ≡ no_links → Building w x 0
+  building_starts e = apart_starts (comparable w) (ap (λ (x : ProcessIndex). x.heads) e) (ap (λ (x : ProcessIndex). x.next) e)
 
-  module _ {i : ℕ} (g : Building w heads next i) (r : i < process_rows) {n : ℕ} (e : n ≡ (process_row w i).number) where
+  module _ {i : ℕ} (g : Building w x i) (r : i < process_rows) {n : ℕ} (e : n ≡ (process_row w i).number) where
     -- a free row is like none before it
-    pub building_past : n ≡ 0 → Building w heads next (i + 1)
+    pub building_past : n ≡ 0 → Building w x (i + 1)
     building_past z = apart_past (comparable w) g r (without_number (process_row w i) (sym e ∙ z))
 
     module _ (u : n ≡ 0 → ⊥) {l : ℕ} (last : l ≡ last_below (row_of w n) i) where
@@ -90,7 +90,7 @@ module _ (w : List ℕ) {heads next : List ℕ} where
 
       -- a used row that none before it is like
       pub building_more : l ≡ 0 → {h : ℕ} → h ≡ n % process_buckets → h < process_buckets
-          → Building w (set heads h (i + 1)) (set next i (get_or heads h 0)) (i + 1)
+          → Building w (with_row x h i) (i + 1)
       building_more z f s = apart_more (comparable w) g r this_used same_last z (f ∙ ap (λ m. m % process_buckets) e) s
 
       -- a used row that one before it is like
@@ -98,8 +98,8 @@ module _ (w : List ℕ) {heads next : List ℕ} where
       unfolding processes_distinct
       building_twice = apart_twice (comparable w) g r this_used same_last
 
-  pub building_ends : {i : ℕ} → Stands w → Building w heads next i → process_rows ≤ i
-      → (true ≡ processes_distinct (unpack w)) × (◌≡◌ {A = Bool} true true → ProcessesIndexed w heads next)
+  pub building_ends : {i : ℕ} → Stands w → Building w x i → process_rows ≤ i
+      → (true ≡ processes_distinct (unpack w)) × (◌≡◌ {A = Bool} true true → ProcessesIndexed w x)
   unfolding processes_distinct
   building_ends s g h =
       let d = apart_ends (comparable w) g h in

@@ -1,16 +1,16 @@
 -- `hold_rules::ends_agree` meets its contract: each end hold is compared with the last before it on its place, and then chained. Assumes nothing.
-use mathlib.Core.Path.{refl, sym, ◌∙◌}
+use mathlib.Core.Path.{sym, ◌∙◌}
 use Prim.Native.Nat.{◌<◌}
 use native.Mathlib.Omega.{arith}
 use borrow.Author.Rules.{rules}
 use Rattle.model.specs.Tables.{hold_rows}
-use Rattle.hold_rules.proofs.Ends.{agreeing_starts, agreeing_past, end_chain, agreeing_more, agreeing_broken, agreeing_ends}
+use Rattle.hold_rules.proofs.Ends.{agreeing_starts, agreeing_past, ends_before, agreeing_more, agreeing_broken, agreeing_ends}
 use Rattle.hold_rules.proofs.Used.{used_inside}
 use Rattle.hold_rules.proofs.ends_agree.Goals as goal
 use Rattle.hold_rules.proofs.ends_agree.Goals.{then-hold_role-eq-END+else-not-agrees_with_last, else-hold_role-eq-END}
 
 pub loop-row-init : goal.loop-row-init
-loop-row-init c = agreeing_starts c.args.words.now refl refl
+loop-row-init c = agreeing_starts c.args.words.now c.new-ends.ensures
 
 pub hold_role-requires : goal.hold_role-requires
 hold_role-requires c =
@@ -29,7 +29,7 @@ agrees_with_last-requires c =
       c.requires.0,
       (
         inside,
-        end_chain c.args.words.now c.loop-row.invariant inside c.hold_role.ensures c.if-hold_role-eq-END.true
+        ends_before c.args.words.now c.loop-row.invariant inside c.hold_role.ensures c.if-hold_role-eq-END.true
             bucket.0 bucket.1,
       ),
     )
@@ -53,10 +53,10 @@ loop-row-preserved c =
     elim c.if-hold_role-eq-END.branch [
       | then-hold_role-eq-END+else-not-agrees_with_last w ↦
           let bucket = w.bucket_of_place-bucket.ensures in
-          rw (w.place_heads-is ∙ w.link_row.ensures.0, w.place_next-is ∙ w.link_row.ensures.1) (agreeing_more c.args.words.now c.loop-row.invariant inside role w.if-hold_role-eq-END.true
+          rw (w.ends-is ∙ w.link_row.ensures) (agreeing_more c.args.words.now c.loop-row.invariant inside role w.if-hold_role-eq-END.true
           (sym w.agrees_with_last.ensures ∙ w.if-not-agrees_with_last.false) bucket.0 bucket.1)
       | else-hold_role-eq-END w ↦
-          rw (w.place_heads-is, w.place_next-is) (agreeing_past c.args.words.now c.loop-row.invariant inside role w.if-hold_role-eq-END.false)
+          rw w.ends-is (agreeing_past c.args.words.now c.loop-row.invariant inside role w.if-hold_role-eq-END.false)
     ]
 
 pub returns : goal.returns

@@ -3,4 +3,4 @@ use Rattle.hold_rules.proofs.Ends.{Agreeing}
 use Rattle.hold_rules.proofs.ends_agree.Given as goal
 
 abbrev pub invariant-loop-row : goal.invariant-loop-row
-invariant-loop-row l = Agreeing l.words l.place_heads l.place_next l.row
+invariant-loop-row l = Agreeing l.words l.ends l.row

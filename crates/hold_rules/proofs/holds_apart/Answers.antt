@@ -1,5 +1,5 @@
 -- `hold_rules::holds_apart` meets its contract: each used row is looked for among the rows before it, and then chained. Assumes nothing.
-use mathlib.Core.Path.{refl, ◌∙◌}
+use mathlib.Core.Path.{◌∙◌}
 use Prim.Native.Nat.{◌<◌}
 use native.Mathlib.Omega.{arith}
 use borrow.Author.Rules.{rules}
@@ -11,7 +11,7 @@ use Rattle.hold_rules.proofs.holds_apart.Goals as goal
 use Rattle.hold_rules.proofs.holds_apart.Goals.{then-hold_directory-ne0+else-is_some, else-hold_directory-ne0}
 
 pub loop-row-init : goal.loop-row-init
-loop-row-init c = comparing_starts c.args.words.now refl refl
+loop-row-init c = comparing_starts c.args.words.now c.new-holds.ensures
 
 pub hold_directory-requires : goal.hold_directory-requires
 hold_directory-requires c =
@@ -28,8 +28,14 @@ last_in_chain-requires c =
     let inside : c.loop-row.row-counter < hold_rows = omega (arith, used_inside c.args.words.now c.requires.1) in
     let stands = c.requires.0 in
     let bucket = c.bucket_of_hold-bucket.ensures in
-    let small : 512 < 9223372036854775808 = omega arith in
-    (small, same_asked c.args.words.now c.loop-row.invariant inside c.hold_directory.ensures c.if-hold_directory-ne0.true bucket.0 bucket.1 (λ k l. search rules))
+    let small : 1530 < 9223372036854775808 = omega arith in (
+      small,
+      (
+        bucket.1,
+        same_asked c.args.words.now c.loop-row.invariant inside c.hold_directory.ensures c.if-hold_directory-ne0.true
+            bucket.0 bucket.1 (λ k l. search rules),
+      ),
+    )
 
 pub link_row-requires : goal.link_row-requires
 link_row-requires c =
@@ -57,11 +63,11 @@ loop-row-preserved c =
           let last =
           same_last c.args.words.now c.loop-row.invariant inside directory w.if-hold_directory-ne0.true bucket.0 bucket.1
           w.last_in_chain.ensures (λ k answer a. search rules) in
-          rw (w.heads-is ∙ w.link_row.ensures.0, w.next-is ∙ w.link_row.ensures.1)
+          rw (w.holds-is ∙ w.link_row.ensures)
           (comparing_more c.args.words.now c.loop-row.invariant inside directory w.if-hold_directory-ne0.true
           last (none_counted _ w.if-is_some.ensures) bucket.0 bucket.1)
       | else-hold_directory-ne0 w ↦
-          rw (w.heads-is, w.next-is) (comparing_past c.args.words.now c.loop-row.invariant inside directory w.if-hold_directory-ne0.false)
+          rw w.holds-is (comparing_past c.args.words.now c.loop-row.invariant inside directory w.if-hold_directory-ne0.false)
     ]
 
 pub returns : goal.returns

@@ -3,4 +3,4 @@ use Rattle.hold_rules.proofs.Holds.{Comparing}
 use Rattle.hold_rules.proofs.holds_apart.Given as goal
 
 abbrev pub invariant-loop-row : goal.invariant-loop-row
-invariant-loop-row l = Comparing l.words l.heads l.next l.row-counter
+invariant-loop-row l = Comparing l.words l.holds l.row-counter

@@ -10,14 +10,15 @@ use Rattle.index.proofs.index_entries.Goals as goal
 use Rattle.index.proofs.index_entries.Goals.{then-directory-ne0+else-is_some, else-directory-ne0}
 
 pub loop-row-init : goal.loop-row-init
-loop-row-init c = building_starts c.args.words.now c.requires.1.0 c.requires.1.1
+loop-row-init c = building_starts c.args.words.now c.requires.1
 
 pub last_in_chain-requires : goal.last_in_chain-requires
 last_in_chain-requires c =
     let stands = c.requires.0 in
     let named = row_named c.args.words.now _ c.entry_name-name.ensures in
-    let small : 1024 < 9223372036854775808 = omega arith in
-    (small, entry_asked c.args.words.now c.loop-row.invariant.chained c.bucket_of-bucket.ensures.1 (λ k l. search rules))
+    let small : 3066 < 9223372036854775808 = omega arith in
+    let bucket = c.bucket_of-bucket.ensures.1 in
+    (small, (bucket, entry_asked c.args.words.now c.loop-row.invariant.chained bucket (λ k l. search rules)))
 
 pub returns-then-is_some : goal.returns-then-is_some
 returns-then-is_some c =
@@ -39,10 +40,10 @@ loop-row-preserved c =
           let named = row_named c.args.words.now _ w.entry_name-name.ensures in
           let last = entry_last c.args.words.now c.loop-row.invariant.chained bucket.1 _ _ named w.if-directory-ne0.true bucket.0 w.last_in_chain.ensures
           (λ k answer a. search rules) in
-          rw (w.heads-is ∙ w.link_row.ensures.0, w.next-is ∙ w.link_row.ensures.1) (building_more c.args.words.now c.loop-row.invariant c.loop-row-test.true directory w.if-directory-ne0.true
+          rw (w.index-is ∙ w.link_row.ensures) (building_more c.args.words.now c.loop-row.invariant c.loop-row-test.true directory w.if-directory-ne0.true
           w.entry_name-name.ensures last (none_counted _ w.if-is_some.ensures) bucket.0 bucket.1)
       | else-directory-ne0 w ↦
-          rw (w.heads-is, w.next-is) (building_past c.args.words.now c.loop-row.invariant c.loop-row-test.true directory w.if-directory-ne0.false)
+          rw w.index-is (building_past c.args.words.now c.loop-row.invariant c.loop-row-test.true directory w.if-directory-ne0.false)
     ]
 
 pub returns : goal.returns

@@ -3,4 +3,4 @@ use Rattle.index.proofs.Entries.{Building}
 use Rattle.index.proofs.index_entries.Given as goal
 
 abbrev pub invariant-loop-row : goal.invariant-loop-row
-invariant-loop-row l = Building l.words l.heads l.next l.row
+invariant-loop-row l = Building l.words l.index l.row

@@ -8,8 +8,9 @@ use Rattle.process_index.proofs.find_in_index.Goals as goal
 pub last_in_chain-requires : goal.last_in_chain-requires
 last_in_chain-requires c =
     let stands = c.requires.0.stands in
-    let small : 128 < 9223372036854775808 = omega arith in
-    (small, number_asked c.args.words.now c.requires.0.chained c.bucket_of-bucket.ensures.1 (λ k l. search rules))
+    let small : 382 < 9223372036854775808 = omega arith in
+    let bucket = c.bucket_of-bucket.ensures.1 in
+    (small, (bucket, number_asked c.args.words.now c.requires.0.chained bucket (λ k l. search rules)))
 
 pub returns : goal.returns
 returns c =

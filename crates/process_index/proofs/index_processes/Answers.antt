@@ -10,13 +10,14 @@ use Rattle.process_index.proofs.index_processes.Goals as goal
 use Rattle.process_index.proofs.index_processes.Goals.{then-number-ne0+else-is_some, else-number-ne0}
 
 pub loop-row-init : goal.loop-row-init
-loop-row-init c = building_starts c.args.words.now c.requires.1.0 c.requires.1.1
+loop-row-init c = building_starts c.args.words.now c.requires.1
 
 pub last_in_chain-requires : goal.last_in_chain-requires
 last_in_chain-requires c =
     let stands = c.requires.0 in
-    let small : 128 < 9223372036854775808 = omega arith in
-    (small, number_asked c.args.words.now c.loop-row.invariant.chained c.bucket_of-bucket.ensures.1 (λ k l. search rules))
+    let small : 382 < 9223372036854775808 = omega arith in
+    let bucket = c.bucket_of-bucket.ensures.1 in
+    (small, (bucket, number_asked c.args.words.now c.loop-row.invariant.chained bucket (λ k l. search rules)))
 
 pub returns-then-is_some : goal.returns-then-is_some
 returns-then-is_some c =
@@ -38,11 +39,11 @@ loop-row-preserved c =
           let last =
           number_last c.args.words.now c.loop-row.invariant.chained bucket.1 _ w.if-number-ne0.true bucket.0 w.last_in_chain.ensures
           (λ k answer a. search rules) in
-          rw (w.heads-is ∙ w.link_row.ensures.0, w.next-is ∙ w.link_row.ensures.1)
+          rw (w.index-is ∙ w.link_row.ensures)
           (building_more c.args.words.now c.loop-row.invariant c.loop-row-test.true number w.if-number-ne0.true
           last (none_counted _ w.if-is_some.ensures) bucket.0 bucket.1)
       | else-number-ne0 w ↦
-          rw (w.heads-is, w.next-is) (building_past c.args.words.now c.loop-row.invariant c.loop-row-test.true number w.if-number-ne0.false)
+          rw w.index-is (building_past c.args.words.now c.loop-row.invariant c.loop-row-test.true number w.if-number-ne0.false)
     ]
 
 pub returns : goal.returns

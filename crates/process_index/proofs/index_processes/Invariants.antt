@@ -3,4 +3,4 @@ use Rattle.process_index.proofs.Processes.{Building}
 use Rattle.process_index.proofs.index_processes.Given as goal
 
 abbrev pub invariant-loop-row : goal.invariant-loop-row
-invariant-loop-row l = Building l.words l.heads l.next l.row
+invariant-loop-row l = Building l.words l.index l.row
