@@ -50,19 +50,18 @@ pub fn serve_run(words: &mut [u32], records: &[u8], answers: &mut [u64]) -> Run
     let mut heads = [0u16; BUCKETS];
     let mut next = [0u16; ENTRY_ROWS];
     let is_sound = sound_and_index(words, &mut heads, &mut next);
-    let mut served = 0;
     let mut taken = 0;
-    while served < answers.len() {
+    for (served, slot) in answers.iter_mut().enumerate() {
         let bytes = &records[taken..];
         let found = read(bytes);
         if is_cut_short(found) {
             return Run { served, taken };
         }
         let answer = serve_found(words, &mut heads, &mut next, bytes, found, is_sound);
-        answers[served] = told_answer(answer, 0);
+        *slot = told_answer(answer, 0);
         taken += taken_of(found);
-        served += 1;
     }
+    let served = answers.len();
     Run { served, taken }
 }
 
@@ -79,10 +78,10 @@ pub fn told_answer(answer: Answer, taken: u64) -> u64
     ensures { result ≡ answer_number (word_number answer) (number_of answer) taken }
 {
     match answer {
-        Answer::Held(node) => told(HELD, node as u64, taken),
-        Answer::Seen(node) => told(SEEN, node as u64, taken),
-        Answer::Done(number) => told(DONE, number as u64, taken),
-        Answer::Refused(number) => told(REFUSED, number as u64, taken),
+        Answer::Held(node) => told(HELD, u64::from(node), taken),
+        Answer::Seen(node) => told(SEEN, u64::from(node), taken),
+        Answer::Done(number) => told(DONE, u64::from(number), taken),
+        Answer::Refused(number) => told(REFUSED, u64::from(number), taken),
     }
 }
 
@@ -142,7 +141,6 @@ fn serve_call(
     let answer = dispatch(words, heads, next, bytes, fields);
     if !leaves_entries(fields.call, answer) {
         index_anew(words, heads, next);
-        return answer;
     }
     answer
 }
@@ -150,15 +148,7 @@ fn serve_call(
 fn leaves_entries(call: u32, answer: Answer) -> bool
     ensures { result ≡ leaves_entries call answer }
 {
-    if keeps_entries(call) {
-        return true;
-    }
-    match answer {
-        Answer::Held(_) => false,
-        Answer::Seen(_) => false,
-        Answer::Done(_) => false,
-        Answer::Refused(_) => true,
-    }
+    keeps_entries(call) || matches!(answer, Answer::Refused(_))
 }
 
 fn index_anew(words: &[u32], heads: &mut [u16; BUCKETS], next: &mut [u16; ENTRY_ROWS])

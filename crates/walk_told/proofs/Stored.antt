@@ -1,12 +1,15 @@
 -- What the stores of a goal come to: place after place, and from the first word to the last. Assumes nothing.
 use mathlib.Core.Path.{◌≡◌, refl, sym, ap, ◌∙◌}
-use mathlib.Core.List.{List, [], ◌∷◌, ◌++◌}
+use mathlib.Core.List.{List, [], ◌∷◌, ◌++◌, append_assoc}
 use Prim.Native.Nat.{ℕ, zero, suc, ◌+◌, ◌*◌, ◌≤◌, ◌<◌}
 use native.Mathlib.Omega.{arith}
 use native.Mathlib.Nat.{add-zero}
-use native.Mathlib.Numerals.{add-one, towards_suc}
-use lib.ListN.{length, get_or, set, drop, length-append, drop_of_length-le}
-use lib.Seq.{sets}
+use native.Mathlib.Numerals.{add-one}
+use lib.ListN.{length, get_or, set, take, drop, length-append, drop_of_length-le}
+use lib.Seq.{sets, sets-eq}
+use borrow.Rule.Slice.PartMut.{put_mid}
+use Rattle.std.proofs.lemmas.List.Edits.{paste_all}
+use Rattle.std.proofs.lemmas.Slice.{put_mid-paste}
 use Rattle.model.specs.Lists.{joined}
 use Rattle.laws.proofs.Pieces.{sets_whole, joined_length}
 use Rattle.goals.specs.declared.Place.{Place}
@@ -20,16 +23,19 @@ sets_append l i (x ∷ xs) ys =
     let n : suc i + length xs ≡ i + suc (length xs) = omega arith in
     sets_append (set l i x) (suc i) xs ys ∙ ap (λ m. sets (sets (set l i x) (suc i) xs) m ys) n
 
-pub place_stored : (l : List ℕ) (at : ℕ) (q : Place)
-    → set (set (set (set (set l at q.directory) (at + 1) q.name.first) (at + 2) q.name.second) (at + 3) q.name.third) (at + 4)
-    q.name.fourth
-    ≡ sets l at (place_words q)
-unfolding place_words
-place_stored l at q = simp towards_suc
-
 pub places_wide : (q : Place) → length (place_words q) ≡ place_size
 unfolding place_words
 places_wide q = refl
+
+-- five words copied into their part of the goal
+pub place_stored : (l : List ℕ) (at : ℕ) (q : Place) (k : ℕ) {part : List ℕ} → length l ≡ goal_size → at + place_size ≤ goal_size → k ≡ place_size → part ≡ place_words q
+    → put_mid at k l part ≡ sets l at (place_words q)
+place_stored l at q k long inside five e =
+    let wide = places_wide q in
+    put_mid-paste at k l _ (place_words q) (length (place_words q)) e (wide ∙ sym five) refl
+    ∙ paste_all l at (place_words q) (length (place_words q)) refl
+    ∙ sym (append_assoc (take at l) (place_words q) (drop (at + length (place_words q)) l))
+    ∙ sym (sets-eq (place_words q) l at (omega arith))
 
 -- A LOOP THAT STORES places: what is left to store gives the whole
 

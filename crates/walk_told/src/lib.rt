@@ -52,8 +52,7 @@ pub fn walk_to(
     }
     let walked = walk(words, &heads, &next, path, follow_last);
     put_goal(goal, walked);
-    let stop = walked.stop;
-    arrival_at(stop)
+    arrival_at(walked.stop)
 }
 
 // Into zeros.
@@ -61,20 +60,16 @@ fn put_goal(goal: &mut [u32; GOAL_WORDS], walk: Walk)
     requires { (goal.old ≡ replicate goal_size 0) × ((walk.count ≤ most_elements) × (length walk.elements ≡ most_elements)) }
     ensures { goal.new ≡ goal_words walk }
 {
-    let stop = walk.stop;
-    let elements = walk.elements;
     goal[0] = walk.count as u32;
-    put_place(goal, END_AT, end_place(stop));
-    put_elements(goal, elements);
+    put_place(goal, END_AT, end_place(walk.stop));
+    put_elements(goal, walk.elements);
 }
 
 fn put_elements(goal: &mut [u32; GOAL_WORDS], elements: [Place; MOST_ELEMENTS])
     ensures { goal.new ≡ sets goal.old elements_at (joined place_words elements) }
 {
-    let mut i = 0;
-    while i < MOST_ELEMENTS {
-        put_place(goal, ELEMENTS_AT + i * PLACE_WORDS, elements[i]);
-        i += 1;
+    for (i, element) in elements.iter().enumerate() {
+        put_place(goal, ELEMENTS_AT + i * PLACE_WORDS, *element);
     }
 }
 
@@ -82,32 +77,23 @@ fn put_place(goal: &mut [u32; GOAL_WORDS], at: usize, place: Place)
     requires { at + place_size ≤ goal_size }
     ensures { goal.new ≡ sets goal.old at (place_words place) }
 {
-    let name = place.name;
-    goal[at] = place.directory as u32;
-    goal[at + 1] = name.first;
-    goal[at + 2] = name.second;
-    goal[at + 3] = name.third;
-    goal[at + 4] = name.fourth;
+    let Block {
+        first,
+        second,
+        third,
+        fourth,
+    } = place.name;
+    let words = [u32::from(place.directory), first, second, third, fourth];
+    goal[at..at + PLACE_WORDS].copy_from_slice(&words);
 }
 
 // The end entry's place, blank where there is none.
 fn end_place(stop: Stop) -> Place
     ensures { result ≡ end_place stop }
 {
-    let name = Block {
-        first: 0,
-        second: 0,
-        third: 0,
-        fourth: 0,
-    };
-    let blank = Place {
-        directory: 0,
-        name: name,
-    };
     match stop {
-        Stop::Refused(_) => blank,
-        Stop::Root => blank,
-        Stop::Entry { place, node: _ } => place,
+        Stop::Entry { place, .. } => place,
+        Stop::Root | Stop::Refused(_) => Place::default(),
     }
 }
 
@@ -117,6 +103,6 @@ fn arrival_at(stop: Stop) -> Arrival
     match stop {
         Stop::Refused(number) => Arrival::Refused(number),
         Stop::Root => Arrival::Node(ROOT),
-        Stop::Entry { place: _, node } => Arrival::Node(node),
+        Stop::Entry { node, .. } => Arrival::Node(node),
     }
 }

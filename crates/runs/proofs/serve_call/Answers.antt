@@ -14,8 +14,8 @@ returns-then-not-leaves_entries c =
     let sound = sound_after c.requires c.dispatch-answer.ensures in
     (c.dispatch-answer.ensures, record { right = sym sound; indexed = λ _. c.index_anew.ensures })
 
-pub returns : goal.returns
-returns c =
+pub returns-else-not-leaves_entries : goal.returns-else-not-leaves_entries
+returns-else-not-leaves_entries c =
     let sound = sound_after c.requires c.dispatch-answer.ensures in
     let leaves = sym c.leaves_entries.ensures ∙ c.if-not-leaves_entries.false in
     (c.dispatch-answer.ensures, record { right = sym sound; indexed = λ _. index_after c.requires c.dispatch-answer.ensures leaves })

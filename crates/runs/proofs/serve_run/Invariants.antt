@@ -1,11 +1,6 @@
 -- `runs::serve_run` meets its contract: what was done and what is left give what the whole run gives. Assumes nothing.
-use Prim.Native.Nat.{◌-◌}
-use lib.ListN.{length}
 use Rattle.runs.proofs.Onward.{Going}
 use Rattle.runs.proofs.serve_run.Given as goal
 
 abbrev pub invariant-loop-served : goal.invariant-loop-served
 invariant-loop-served l = Going l.initial.words l.records l.initial.answers l.words l.heads l.next l.answers l.is_sound l.served l.taken
-
-abbrev pub decreases-loop-served : goal.decreases-loop-served
-decreases-loop-served l = length l.initial.answers - l.served

@@ -1,16 +1,12 @@
 -- `walk_told::put_elements` meets its contract: what is left to store gives the whole. Assumes nothing.
 use mathlib.Core.Path.{◌≡◌}
-use Prim.Native.Nat.{◌+◌, ◌*◌, ◌-◌, ◌≤◌}
+use Prim.Native.Nat.{◌+◌, ◌*◌}
 use lib.ListN.{drop}
 use lib.Seq.{sets}
 use Rattle.model.specs.Lists.{joined}
-use Rattle.walk_told.specs.Arrivals.{place_size, most_elements, elements_at, place_words}
+use Rattle.walk_told.specs.Arrivals.{place_size, elements_at, place_words}
 use Rattle.walk_told.proofs.put_elements.Given as goal
 
 abbrev pub invariant-loop-i : goal.invariant-loop-i
 invariant-loop-i l =
-    (l.i ≤ most_elements)
-    × (sets l.goal (elements_at + l.i * place_size) (joined place_words (drop l.i l.elements)) ≡ sets l.initial.goal elements_at (joined place_words l.elements))
-
-abbrev pub decreases-loop-i : goal.decreases-loop-i
-decreases-loop-i l = most_elements - l.i
+    sets l.goal (elements_at + l.i * place_size) (joined place_words (drop l.i l.element-items)) ≡ sets l.initial.goal elements_at (joined place_words l.element-items)
