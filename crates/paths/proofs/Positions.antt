@@ -9,7 +9,7 @@ use lib.ListN.{length, get_or, drop, length-drop, drop_of_length-le}
 use lib.Seq.{drop-cons}
 use borrow.Author.Tests.{eq-eqb, ne_eqb}
 use Rattle.model.specs.Paths.{slash, parts, absolute, names_behind, names}
-use Rattle.paths.specs.declared.Next.TheVariants.{Name, End}
+use Rattle.std.specs.Prelude.{Some, None}
 use Rattle.paths.specs.Split.{first_part, slashes, located, next}
 use Rattle.paths.proofs.Parts.{parts_split}
 
@@ -43,11 +43,11 @@ module _ (p : List ℕ) (at : ℕ) where
 -- THE NEXT NAME
 
 module _ (p : List ℕ) (at : ℕ) where
-  pub next_at_end : length p ≤ at → next p at ≡ End
+  pub next_at_end : length p ≤ at → next p at ≡ None
   unfolding next located
   next_at_end h = rw (names_at_end p at h)
 
-  pub next_at_last_slash : at < length p → get_or p at 0 ≡ slash → at + 1 ≡ length p → next p at ≡ End
+  pub next_at_last_slash : at < length p → get_or p at 0 ≡ slash → at + 1 ≡ length p → next p at ≡ None
   unfolding next located
   next_at_last_slash h e n = rw (names_at_last_slash p at h e n)
 
@@ -59,17 +59,17 @@ module _ (p : List ℕ) (at : ℕ) where
   unfolding slashes absolute
   slashes_none h n = rw (drop-cons p at 0 h) (simp (ne_eqb _ slash n, slashes))
 
-  pub next_behind_slash : at < length p → get_or p at 0 ≡ slash → (at + 1 ≡ length p → ⊥) → next p at ≡ Name (at + 1) (length (first_part (drop (at + 1) p)))
+  pub next_behind_slash : at < length p → get_or p at 0 ≡ slash → (at + 1 ≡ length p → ⊥) → next p at ≡ Some (record { start = at + 1; length = length (first_part (drop (at + 1) p)) })
   unfolding next located
   next_behind_slash h e n = rw (slashes_one h e, names_behind_slash p at h e n, parts_split (drop (at + 1) p))
 
-  pub next_here : at < length p → (get_or p at 0 ≡ slash → ⊥) → next p at ≡ Name at (length (first_part (drop at p)))
+  pub next_here : at < length p → (get_or p at 0 ≡ slash → ⊥) → next p at ≡ Some (record { start = at; length = length (first_part (drop at p)) })
   unfolding next located
   next_here h n = rw (slashes_none h n, add-zero, names_at_byte p at h n, parts_split (drop at p))
 
   -- the same, where the name's end is known
   pub next_to_end : (start end : ℕ) → end ≡ start + length (first_part (drop start p))
-      → next p at ≡ Name start (length (first_part (drop start p))) → Name start (end - start) ≡ next p at
+      → next p at ≡ Some (record { start = start; length = length (first_part (drop start p)) }) → Some (record { start = start; length = end - start }) ≡ next p at
   next_to_end start end e q =
       let n : end - start ≡ length (first_part (drop start p)) = omega arith in
       rw (n, q)

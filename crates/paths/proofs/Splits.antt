@@ -12,7 +12,8 @@ use borrow.Author.Tests.{eqb-true, eqb-false, leb-true, leb-false}
 use Rattle.model.specs.Lists.{all}
 use Rattle.model.specs.Paths.{slash, parts, names, valid_name}
 use Rattle.laws.proofs.Bools.{and_left, and_right, clash}
-use Rattle.paths.specs.declared.Next.TheVariants.{Name, End}
+use Rattle.std.specs.Prelude.{Some, None}
+use Rattle.paths.specs.declared.Part.{Part}
 use Rattle.paths.specs.Split.{first_part, located, next}
 use Rattle.paths.proofs.Parts.{behind, parts_split, first_part_begins, first_part_fits, first_part_stops, part_at_byte}
 use Rattle.paths.proofs.Positions.{names_at_end, names_at_byte, names_behind_slash, next_at_end, next_at_last_slash, next_behind_slash, next_here}
@@ -26,12 +27,12 @@ pub record Splits (path : List ℕ) (at start size : ℕ) : Type 0 where
   pub stops : start + size < length path → get_or path (start + size) 0 ≡ slash
 
 -- no name is left just where the names are none
-none_located : (start : ℕ) (ns : List (List ℕ)) → located start ns ≡ End → ns ≡ []
+none_located : (start : ℕ) (ns : List (List ℕ)) → located start ns ≡ None → ns ≡ []
 unfolding located
 none_located start [] e = refl
 none_located start (n ∷ ns) e = absurd (let z : ◌≡◌ {A = ℕ} 0 1 = cc in omega arith)
 
-pub next_ends : (path : List ℕ) (at : ℕ) → next path at ≡ End → names (drop at path) ≡ []
+pub next_ends : (path : List ℕ) (at : ℕ) → next path at ≡ None → names (drop at path) ≡ []
 unfolding next
 next_ends path at e = none_located _ (names (drop at path)) e
 
@@ -57,13 +58,14 @@ starts path at start low high apart e =
         omega (arith, part_at_byte path start high (apart same))
 
 -- the name found is the first of those that are left
-pub next_splits : (path : List ℕ) (at start size : ℕ) → next path at ≡ Name start size → Splits path at start size
+pub next_splits : (path : List ℕ) (at start size : ℕ) → next path at ≡ Some (record { start = start; length = size }) → Splits path at start size
 next_splits path at start size e = go (leb (length path) at) refl
   where
-    from : (s : ℕ) → next path at ≡ Name s (length (first_part (drop s path))) → Splits path at s (length (first_part (drop s path))) → Splits path at start size
+    from : (s : ℕ) → next path at ≡ Some (record { start = s; length = length (first_part (drop s path)) }) → Splits path at s (length (first_part (drop s path))) → Splits path at start size
     from s q h =
-        let same_start : s ≡ start = cc in
-        let same_size : length (first_part (drop s path)) ≡ size = cc in
+        let same : ◌≡◌ {A = Part} (record { start = s; length = length (first_part (drop s path)) }) (record { start = start; length = size }) = cc in
+        let same_start = ap (λ (p : Part). p.start) same in
+        let same_size = ap (λ (p : Part). p.length) same in
         subst (λ (n : ℕ). Splits path at start n) same_size
         (subst (λ (k : ℕ). Splits path at k (length (first_part (drop s path)))) same_start h)
 
@@ -130,7 +132,7 @@ module _ (path : List ℕ) (end : ℕ) (valid : all valid_name (behind (drop end
           behind_slash path end h ∙ sym (names_go_on h)
 
 -- the name found is valid, and what a walk has left behind it are the names from there on
-pub next_splits_valid : (path : List ℕ) (at start size : ℕ) → all valid_name (names (drop at path)) ≡ true → next path at ≡ Name start size
+pub next_splits_valid : (path : List ℕ) (at start size : ℕ) → all valid_name (names (drop at path)) ≡ true → next path at ≡ Some (record { start = start; length = size })
     → SplitsValid path at start size
 unfolding all
 next_splits_valid path at start size v e =

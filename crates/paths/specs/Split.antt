@@ -1,21 +1,20 @@
 -- The split of a path, by the model's `names`, and what the path test asks on its way. Assumes nothing.
-use Rattle.std.specs.Prelude.{Bool, true, false, ◌||◌, List, [], ◌∷◌, ℕ, ◌+◌, length, drop}
+use Rattle.std.specs.Prelude.{Bool, true, false, ◌||◌, Option, None, Some, List, [], ◌∷◌, ℕ, ◌+◌, length, drop}
 use Rattle.model.specs.Lists.{same}
 use Rattle.model.specs.Paths.{dot, parts, absolute, names}
-use Rattle.paths.specs.declared.Next.{Next}
-use Rattle.paths.specs.declared.Next.TheVariants.{Name, End}
+use Rattle.paths.specs.declared.Part.{Part}
 
 -- how many bytes stand in front of the first name: its slash, where it has one
 unfoldable pub slashes : List ℕ → ℕ
 slashes s = elim (absolute s) [ true ↦ 1 | false ↦ 0 ]
 
 -- the first of the names, which starts at a known position
-unfoldable pub located : ℕ → List (List ℕ) → Next
-located start [] = End
-located start (name ∷ others) = Name start (length name)
+unfoldable pub located : ℕ → List (List ℕ) → Option Part
+located start [] = None
+located start (name ∷ others) = Some (record { start = start; length = length name })
 
 -- where the first name of what stands from a position on starts, and how long it is
-unfoldable pub next : List ℕ → ℕ → Next
+unfoldable pub next : List ℕ → ℕ → Option Part
 next path at = located (at + slashes (drop at path)) (names (drop at path))
 
 -- what stands before the first slash

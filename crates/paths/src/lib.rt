@@ -16,28 +16,28 @@ pub const LONGEST_PATH: usize = 255;
 
 pub const LONGEST_TARGET: usize = 64;
 
-// Where the next name stands, or that none is left.
+// Where a part of some bytes starts, and how many it has.
 #[derive(Clone, Copy)]
-pub enum Next {
-    Name { start: usize, length: usize },
-    End,
+pub struct Part {
+    pub start: usize,
+    pub length: usize,
 }
 
-// The first name from a position on. At a slash it is the name behind it, so that a walk goes on from the end of the last name.
-pub fn next_name(path: &[u8], at: usize) -> Next
+// The first name from a position on, if one is left. At a slash it is the name behind it, so that a walk goes on from the end of the last name.
+pub fn next_name(path: &[u8], at: usize) -> Option<Part>
     ensures { result ≡ next path.now at }
 {
     if path.len() <= at {
-        return Next::End;
+        return None;
     }
     let start = if path[at] == SLASH { at + 1 } else { at };
     if start == path.len() {
-        return Next::End;
+        return None;
     }
-    Next::Name {
-        start: start,
+    Some(Part {
+        start,
         length: name_end(path, start) - start,
-    }
+    })
 }
 
 pub fn valid_path(path: &[u8]) -> bool
