@@ -6,18 +6,16 @@ use mathlib.Core.Logic.{◌≢◌, ◌⊎◌, inl, inr}
 use mathlib.Core.List.{List, [], ◌∷◌, append-nil}
 use Prim.Native.Nat.{ℕ, zero, suc, ◌+◌}
 use native.Mathlib.Omega.{arith}
-use borrow.Author.Tests.{eq-eqb, ne_eqb}
+use borrow.Author.Tests.{ne_eqb}
+use Rattle.std.specs.Prelude.{Some, None, Ok, Err}
 use Rattle.model.specs.Refusals.{Outcome, refused}
 use Rattle.model.specs.Paths.{Name, names}
 use Rattle.model.specs.Tables as model_tables
 use Rattle.model.specs.Tables.{Node, a_directory, a_link, node_at, lookup}
 use Rattle.model.specs.Walk.{Goal, Found, link, found, Trip, here, astray, past, after_link, start, follow, turn, trip_names}
-use Rattle.goals.specs.declared.Place.{Place}
-use Rattle.goals.specs.declared.Stop.{Stop}
-use Rattle.goals.specs.declared.Stop.TheVariants.{Refused, Root, Entry}
-use Rattle.goals.specs.Goals.{place_row, stop_of}
+use Rattle.goals.specs.Goals.{place_row}
 use Rattle.walk.specs.declared.Trail.{Trail}
-use Rattle.walk.specs.Trails.{continued, by_kind, only_directory, walk_within}
+use Rattle.walk.specs.Trails.{end_row, trail_after, continued, by_kind, walk_within}
 use Rattle.walk.proofs.Found.{Walkable, Stood, absent, of_file, of_directory, of_link, found_stood, numbered}
 use Rattle.walk.proofs.Legs.{jump_within, within_names}
 
@@ -70,42 +68,31 @@ module _ (row : model_tables.Place → ℕ) (t : Trail) where
   same_count : t.count ≡ t.count + 0
   same_count = omega arith
 
-  pub stopped_at : (q : model_tables.Place) (n : ℕ) → record { stop = Entry (place_row q) n; count = t.count; rows = t.rows } ≡ continued row t (here q n).outcome
-  unfolding continued here stop_of
-  stopped_at q n = λ i. record { stop = Entry (place_row q) n; count = same_count i; rows = t.rows }
+  pub stopped_at : (q : model_tables.Place) (n : ℕ) →
+      Ok (record { end = Some (place_row q); trail = record { node = n; count = t.count; rows = t.rows } }) ≡ continued row t (here q n).outcome
+  unfolding continued trail_after end_row here
+  stopped_at q n = λ i. Ok (record { end = Some (place_row q); trail = record { node = n; count = same_count i; rows = t.rows } })
 
-  pub stopped_by_slash : (entries : List model_tables.Entry) (nodes : List Node) (follow_last : Bool) (k d : ℕ) (ns : List Name) → ns ≡ [] →
-      record { stop = Root; count = t.count; rows = t.rows } ≡ continued row t (walk_within entries nodes follow_last k d ns)
-  unfolding continued trip_names stop_of
-  stopped_by_slash entries nodes follow_last k d ns none_left =
-      (λ i. record { stop = Root; count = same_count i; rows = t.rows })
-      ∙ ap (λ (x : Trip). continued row t x.outcome) (sym (within_names entries nodes follow_last k d [])) ∙ rw none_left
+  pub stopped_by_slash : (entries : List model_tables.Entry) (nodes : List Node) (follow_last : Bool) (k : ℕ) (ns : List Name) → ns ≡ [] →
+      Ok (record { end = None; trail = t }) ≡ continued row t (walk_within entries nodes follow_last k t.node ns)
+  unfolding continued trail_after end_row trip_names
+  stopped_by_slash entries nodes follow_last k ns none_left =
+      (λ i. Ok (record { end = None; trail = record { node = t.node; count = same_count i; rows = t.rows } }))
+      ∙ ap (λ (x : Trip). continued row t x.outcome) (sym (within_names entries nodes follow_last k t.node [])) ∙ rw none_left
 
--- GOING ON
+-- GOING ON, by the kind of the node
 
--- a refusal, or node 1, as the code tells the variants apart
-pub stays : (nodes : List Node) (s : Stop) → ((q : Place) (n : ℕ) → s ≡ Entry q n → ⊥) → s ≡ only_directory nodes s
-unfolding only_directory
-stays nodes (Refused n) e = refl
-stays nodes Root e = refl
-stays nodes (Entry q n) e = absurd (e q n refl)
+pub is_missing : {kind : ℕ} → kind ≡ 0 → Err 8 ≡ by_kind kind
+unfolding by_kind
+is_missing e = rw e
 
-module _ (nodes : List Node) {s : Stop} {q : Place} {n kind : ℕ} (e : s ≡ Entry q n) (f : kind ≡ (node_at nodes n).kind) where
-  sorted : only_directory nodes s ≡ by_kind kind (Entry q n)
-  unfolding only_directory
-  sorted = rw (e, f)
+pub is_a_directory : {kind : ℕ} → kind ≡ a_directory → Ok tt ≡ by_kind kind
+unfolding by_kind
+is_a_directory e = rw e
 
-  pub is_missing : kind ≡ 0 → Refused 8 ≡ only_directory nodes s
-  unfolding by_kind
-  is_missing k = sym (sorted ∙ simp (eq-eqb kind 0 k, by_kind))
-
-  pub is_a_directory : (kind ≡ 0 → ⊥) → kind ≡ a_directory → Entry q n ≡ only_directory nodes s
-  unfolding by_kind
-  is_a_directory k d = sym (sorted ∙ simp (ne_eqb kind 0 k, eq-eqb kind a_directory d, by_kind))
-
-  pub is_no_directory : (kind ≡ 0 → ⊥) → (kind ≡ a_directory → ⊥) → Refused 9 ≡ only_directory nodes s
-  unfolding by_kind
-  is_no_directory k d = sym (sorted ∙ simp (ne_eqb kind 0 k, ne_eqb kind a_directory d, by_kind))
+pub is_no_directory : {kind : ℕ} → (kind ≡ 0 → ⊥) → (kind ≡ a_directory → ⊥) → Err 9 ≡ by_kind kind
+unfolding by_kind
+is_no_directory {kind} k d = sym (simp (ne_eqb kind 0 k, ne_eqb kind a_directory d, by_kind))
 
 -- FOLLOWING
 

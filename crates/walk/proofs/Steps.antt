@@ -9,6 +9,7 @@ use native.Mathlib.Omega.{arith}
 use lib.Dec.{eqb, ltb}
 use lib.ListN.{length, get_or, take, drop}
 use borrow.Author.Tests.{eqb-true, eqb-false, ltb-true, ltb-false, le-ltb, lt-ltb}
+use Rattle.std.specs.Prelude.{Some, None, Result, Ok, Err}
 use Rattle.model.specs.Lists.{filled}
 use Rattle.model.specs.Refusals.{Outcome, ◌>>=◌}
 use Rattle.model.specs.Paths.{Name, longest_name, longest_target, slash, names, absolute, valid_name, valid_names}
@@ -29,7 +30,6 @@ use Rattle.rows.specs.Stands.{node_row}
 use Rattle.rows.proofs.Blocks.{name_back, block_named}
 use Rattle.rows.proofs.Fields.{node_in_row}
 use Rattle.rows.proofs.Parts.{nodes_full}
-use Rattle.goals.specs.declared.Stop.TheVariants.{Refused, Root, Entry}
 use Rattle.goals.specs.Goals.{place_row}
 use Rattle.paths.specs.declared.Next.TheVariants.{Name as NamedNext}
 use Rattle.paths.specs.Split.{next}
@@ -39,11 +39,11 @@ use Rattle.index.specs.Indexed.{row_found, node_in}
 use Rattle.index.proofs.Entries.{block_back, node_found_there}
 use Rattle.walk.specs.declared.Stretch.{Stretch}
 use Rattle.walk.specs.declared.Trail.{Trail}
-use Rattle.walk.specs.Trails.{turned_away, continued, through, onward_from, followed, only_directory, walk_within, walked_from, link_walked, Ready}
+use Rattle.walk.specs.Trails.{continued, through, followed, only_directory, walk_within, walked_from, link_walked, Ready}
 use Rattle.walk.proofs.Found.{Walkable, GoodTarget, good_target, sound_walkable}
 use Rattle.walk.proofs.Legs.{jump_within, onward, walk_legs}
 use Rattle.walk.proofs.Ends.{Ends, walk_ends}
-use Rattle.walk.proofs.Continues.{is_refused, continued_link, stopped_leg, next_leg}
+use Rattle.walk.proofs.Continues.{continued_link, refused_leg, stopped_leg, next_leg}
 use Rattle.walk.proofs.Answers.{stops_there, follows_link, stopped_at, stopped_by_slash, ninth_link, one_link}
 
 -- A NAME IS MET
@@ -105,47 +105,47 @@ module _ (path : List ℕ) (at start size : ℕ) (n : NextName path at start siz
 -- ONE NAME IS RESOLVED
 
 -- the directory is a node
-pub in_no_directory : {w heads next : List ℕ} {t : Trail} → Ready w heads next t → t.directory ≢ 0
+pub in_no_directory : {w heads next : List ℕ} {t : Trail} → Ready w heads next t → t.node ≢ 0
 unfolding is_directory node_at
 in_no_directory {w} ready z = let no : is_directory (unpack w).nodes 0 ≡ true = rw z at ready.there in true≢false (sym no)
 
 -- the node of the row that was found is the one that the name leads to
-pub node_met : {w heads next : List ℕ} {t : Trail} → Ready w heads next t → (b : Block) {found node : ℕ} → found ≡ row_found w (place_of t.directory b) →
-    node ≡ node_in w found → node ≡ lookup (unpack w).entries (place_of t.directory b)
+pub node_met : {w heads next : List ℕ} {t : Trail} → Ready w heads next t → (b : Block) {found node : ℕ} → found ≡ row_found w (place_of t.node b) →
+    node ≡ node_in w found → node ≡ lookup (unpack w).entries (place_of t.node b)
 unfolding place_of
-node_met {w} {t = t} ready b e f = f ∙ rw e (node_found_there w (place_of t.directory b) (in_no_directory ready) ready.indexed.distinct)
+node_met {w} {t = t} ready b e f = f ∙ rw e (node_found_there w (place_of t.node b) (in_no_directory ready) ready.indexed.distinct)
 
 -- a link followed alone, by the row of its entry and by its place
 link_alone : (w : List ℕ) (t : Trail) (b : Block) (target : List ℕ) →
-    link_walked w t (row_found w (place_of t.directory b)) target
-    ≡ continued (row_found w) t (follow (jump_within (unpack w).entries (unpack w).nodes true (8 - t.count)) (place_of t.directory b) target []).outcome
+    link_walked w t (row_found w (place_of t.node b)) target
+    ≡ continued (row_found w) t (follow (jump_within (unpack w).entries (unpack w).nodes true (8 - t.count)) (place_of t.node b) target []).outcome
 unfolding link_walked walked_from continued place_of
 link_alone w t b target = go (ltb t.count 8) refl
   where
     place : model_tables.Place
-    place = place_of t.directory b
+    place = place_of t.node b
 
     alone : Outcome Goal
     alone = (follow (jump_within (unpack w).entries (unpack w).nodes true (8 - t.count)) place target []).outcome
 
     inside : Outcome Goal
-    inside = walk_within (unpack w).entries (unpack w).nodes true (8 - (t.count + 1)) (start t.directory target) (names target)
+    inside = walk_within (unpack w).entries (unpack w).nodes true (8 - (t.count + 1)) (start t.node target) (names target)
 
     go : (free : Bool) → ltb t.count 8 ≡ free → link_walked w t (row_found w place) target ≡ continued (row_found w) t alone
     go true e =
         let few = ltb-true t.count 8 e in
-        simp (e, link_walked) (continued_link (row_found w) t place (start t.directory target) inside
+        simp (e, link_walked) (continued_link (row_found w) t place (start t.node target) inside
         ∙ ap (continued (row_found w) t) (one_link (unpack w).entries (unpack w).nodes (8 - t.count) (8 - (t.count + 1)) place target (omega arith)))
     go false e =
         let full = ltb-false t.count 8 e in
         simp (e, link_walked) (ap (continued (row_found w) t) (sym (ninth_link (unpack w).entries (unpack w).nodes (8 - t.count) place target (omega arith))))
 
 module _ (w : List ℕ) (walkable : Walkable (unpack w).entries (unpack w).nodes) (t : Trail) (b : Block) (node : ℕ)
-    (there : node ≡ lookup (unpack w).entries (place_of t.directory b)) (follow_last : Bool) where
+    (there : node ≡ lookup (unpack w).entries (place_of t.node b)) (follow_last : Bool) where
   abbrev place : model_tables.Place
-  place = place_of t.directory b
+  place = place_of t.node b
 
-  pub resolves_link : {found : ℕ} {r : Stretch} → found ≡ row_found w place → follow_last ≡ true → (node_at (unpack w).nodes node).kind ≡ a_link →
+  pub resolves_link : {found : ℕ} {r : Result Stretch ℕ} → found ≡ row_found w place → follow_last ≡ true → (node_at (unpack w).nodes node).kind ≡ a_link →
       r ≡ link_walked w t found (node_at (unpack w).nodes node).target → r ≡ walked_from w follow_last t (name_of b ∷ [])
   unfolding walked_from place_of
   resolves_link same f kind e =
@@ -154,13 +154,14 @@ module _ (w : List ℕ) (walkable : Walkable (unpack w).entries (unpack w).nodes
       ∙ ap (continued (row_found w) t) (sym (follows_link (unpack w).entries (unpack w).nodes walkable follow_last (8 - t.count) place f link_there))
 
   pub stops_at_entry : Named b → ((node_at (unpack w).nodes node).kind ≢ a_link) ⊎ (follow_last ≡ false) →
-      record { stop = Entry (record { directory = t.directory; name = b }) node; count = t.count; rows = t.rows } ≡ walked_from w follow_last t (name_of b ∷ [])
+      Ok (record { end = Some (record { directory = t.node; name = b }); trail = record { node = node; count = t.count; rows = t.rows } })
+      ≡ walked_from w follow_last t (name_of b ∷ [])
   unfolding walked_from place_of
   stops_at_entry named c =
-      let same = sym (place_there_and_back t.directory b named) in
+      let same = sym (place_there_and_back t.node b named) in
       let no_link : ((node_at (unpack w).nodes (lookup (unpack w).entries place)).kind ≢ a_link) ⊎ (follow_last ≡ false) = rw there at c in
       let alone = stops_there (unpack w).entries (unpack w).nodes walkable follow_last (8 - t.count) place no_link in
-      (λ i. record { stop = Entry (same i) (there i); count = t.count; rows = t.rows })
+      (λ i. Ok (record { end = Some (same i); trail = record { node = there i; count = t.count; rows = t.rows } }))
       ∙ stopped_at (row_found w) t place (lookup (unpack w).entries place) ∙ ap (continued (row_found w) t) (sym alone)
 
 -- NAMES ONE AFTER THE OTHER
@@ -173,7 +174,7 @@ pub record Walking (w heads next path : List ℕ) (follow_last : Bool) (from : T
   pub same : walked_from w follow_last trail (names (drop at path)) ≡ walked_from w follow_last from (names path)
 
 -- What the loop knows where it has resolved a name alone.
-pub record Met (w path : List ℕ) (follow_last : Bool) (at : ℕ) (trail : Trail) (start size : ℕ) (met : Stretch) : Type 0 where
+pub record Met (w path : List ℕ) (follow_last : Bool) (at : ℕ) (trail : Trail) (start size : ℕ) (met : Result Stretch ℕ) : Type 0 where
   pub name : NextName path at start size
   pub block : Block
   pub made : block ≡ block_of (take size (drop start path))
@@ -191,13 +192,13 @@ two_legs w walkable follow_last k d n (m ∷ rest) more e = walk_legs (unpack w)
 module _ {w heads next path : List ℕ} {follow_last : Bool} {from : Trail} {at : ℕ} {trail : Trail} (walking : Walking w heads next path follow_last from at trail) where
   -- no name is left
   pub stops_by_slash : names (drop at path) ≡ [] →
-      record { stop = Root; count = trail.count; rows = trail.rows } ≡ walked_from w follow_last from (names path)
+      Ok (record { end = None; trail = trail }) ≡ walked_from w follow_last from (names path)
   unfolding walked_from
   stops_by_slash none_left =
-      stopped_by_slash (row_found w) trail (unpack w).entries (unpack w).nodes follow_last (8 - trail.count) trail.directory (names (drop at path)) none_left
+      stopped_by_slash (row_found w) trail (unpack w).entries (unpack w).nodes follow_last (8 - trail.count) (names (drop at path)) none_left
       ∙ walking.same
 
-  module _ {start size : ℕ} {met : Stretch} (m : Met w path follow_last at trail start size met) where
+  module _ {start size : ℕ} {met : Result Stretch ℕ} (m : Met w path follow_last at trail start size met) where
     resolved : {last : Bool} → eqb (start + size) (length path) ≡ last → met ≡ walked_from w (followed last follow_last) trail (name_of m.block ∷ [])
     resolved h =
         m.is ∙ ap (λ (l : Bool). walked_from w l trail (name_of m.block ∷ [])) (m.asked ∙ ap (λ (l : Bool). followed l follow_last) h)
@@ -215,7 +216,7 @@ module _ {w heads next path : List ℕ} {follow_last : Bool} {from : Trail} {at 
       others = names (drop (start + size) path)
 
       abbrev First : Outcome Goal
-      First = walk_within (unpack w).entries (unpack w).nodes true (8 - trail.count) trail.directory (name_of m.block ∷ [])
+      First = walk_within (unpack w).entries (unpack w).nodes true (8 - trail.count) trail.node (name_of m.block ∷ [])
 
       walkable : Walkable (unpack w).entries (unpack w).nodes
       walkable = sound_walkable w walking.ready.sound
@@ -226,7 +227,7 @@ module _ {w heads next path : List ℕ} {follow_last : Bool} {from : Trail} {at 
 
       ends : Ends (8 - trail.count) First
       ends =
-          walk_ends (unpack w).entries (unpack w).nodes walkable true (8 - trail.count) trail.directory (name_of m.block ∷ [])
+          walk_ends (unpack w).entries (unpack w).nodes walkable true (8 - trail.count) trail.node (name_of m.block ∷ [])
           (λ z. let y : ◌≡◌ {A = ℕ} 0 1 = cc in absurd (omega arith))
 
       both : continued (row_found w) trail (First >>= onward (unpack w).entries (unpack w).nodes follow_last (8 - trail.count) others)
@@ -234,23 +235,44 @@ module _ {w heads next path : List ℕ} {follow_last : Bool} {from : Trail} {at 
       unfolding walked_from
       both =
           let more = more_names path at start size m.name m.block m.made (eqb-false (start + size) (length path) end) in
-          let legs = two_legs w walkable follow_last (8 - trail.count) trail.directory (name_of m.block) others more walking.ready.there in
+          let legs = two_legs w walkable follow_last (8 - trail.count) trail.node (name_of m.block) others more walking.ready.there in
           ap (continued (row_found w) trail) (sym legs) ∙ ap (walked_from w follow_last trail) (sym (names_from path at start size m.name m.block m.made))
           ∙ walking.same
 
-      pub stopped_on_the_way : {n : ℕ} → only_directory (unpack w).nodes met.stop ≡ Refused n → turned_away n ≡ walked_from w follow_last from (names path)
-      stopped_on_the_way s = stopped_leg (row_found w) (unpack w).entries (unpack w).nodes walkable.top follow_last others trail First met ends first_leg s ∙ both
+      refused_first : {n : ℕ} → Err n ≡ met → Err n ≡ walked_from w follow_last from (names path)
+      refused_first e = refused_leg (row_found w) (unpack w).entries (unpack w).nodes follow_last others trail First (e ∙ first_leg) ∙ both
 
-      pub walks_on : is_refused (only_directory (unpack w).nodes met.stop) ≡ false → Walking w heads next path follow_last from (start + size) (onward_from met)
-      unfolding walked_from onward_from
-      walks_on s =
-          let on = next_leg (row_found w) (unpack w).entries (unpack w).nodes walkable.top follow_last others trail walking.ready.few First met ends first_leg s in
+      stopped_first : {r : Stretch} {n : ℕ} → Ok r ≡ met → only_directory (unpack w).nodes r.trail.node ≡ Err n → Err n ≡ walked_from w follow_last from (names path)
+      stopped_first e s = stopped_leg (row_found w) (unpack w).entries (unpack w).nodes follow_last others trail First (e ∙ first_leg) s ∙ both
+
+      walks_on_first : {r : Stretch} → Ok r ≡ met → only_directory (unpack w).nodes r.trail.node ≡ Ok tt →
+          Walking w heads next path follow_last from (start + size) r.trail
+      unfolding walked_from
+      walks_on_first e s =
+          let on = next_leg (row_found w) (unpack w).entries (unpack w).nodes follow_last others trail walking.ready.few First ends (e ∙ first_leg) s in
           record {
             ready = record { sound = walking.ready.sound; indexed = walking.ready.indexed; there = on.directory; few = on.few };
             valid = m.name.split.others_valid;
             more = omega (arith, walking.more, on.more);
             same = on.same ∙ both;
           }
+
+  -- what comes of it: refused, at an end, or onward
+  module _ {start size : ℕ} where
+    pub refused_whole : {n : ℕ} → Met w path follow_last at trail start size (Err n) → Err n ≡ walked_from w follow_last from (names path)
+    refused_whole {n = n} m = go (eqb (start + size) (length path)) refl
+      where
+        go : (last : Bool) → eqb (start + size) (length path) ≡ last → Err n ≡ walked_from w follow_last from (names path)
+        go true e = last_resolved m e
+        go false e = refused_first m e refl
+
+    pub stopped_on_the_way : {r : Stretch} {n : ℕ} → Met w path follow_last at trail start size (Ok r) → eqb (start + size) (length path) ≡ false →
+        only_directory (unpack w).nodes r.trail.node ≡ Err n → Err n ≡ walked_from w follow_last from (names path)
+    stopped_on_the_way m end s = stopped_first m end refl s
+
+    pub walks_on : {r : Stretch} → Met w path follow_last at trail start size (Ok r) → eqb (start + size) (length path) ≡ false →
+        only_directory (unpack w).nodes r.trail.node ≡ Ok tt → Walking w heads next path follow_last from (start + size) r.trail
+    walks_on m end s = walks_on_first m end refl s
 
 -- A LINK IS FOLLOWED
 
@@ -297,22 +319,22 @@ unfolding start absolute
 started d target first s e f = f ∙ ap (λ (c : ℕ). elim (eqb c slash) as (λ _. ℕ) [ true ↦ 1 | false ↦ d ]) e
 
 module _ (w : List ℕ) (t : Trail) (found : ℕ) (target : List ℕ) where
-  pub no_link_left : 8 ≤ t.count → turned_away 7 ≡ link_walked w t found target
+  pub no_link_left : 8 ≤ t.count → Err 7 ≡ link_walked w t found target
   unfolding link_walked
   no_link_left full = sym (simp (le-ltb t.count 8 full, link_walked))
 
   -- from what the code computed for it
-  pub follows_target : t.count < 8 → {u : Trail} {s : ℕ} {bytes : List ℕ} {r : Stretch} → u ≡ through t found s → s ≡ start t.directory target → bytes ≡ target →
+  pub follows_target : t.count < 8 → {u : Trail} {s : ℕ} {bytes : List ℕ} {r : Result Stretch ℕ} → u ≡ through t found s → s ≡ start t.node target → bytes ≡ target →
       r ≡ walked_from w true u (names bytes) → r ≡ link_walked w t found target
   unfolding link_walked
   follows_target free e f g h = h ∙ rw (e, f, g) (sym (simp (lt-ltb t.count 8 free, link_walked)))
 
   -- the trail is fit for the target's names
-  pub ready_inside : {heads next : List ℕ} {s : ℕ} → s ≡ start t.directory target → Ready w heads next t → t.count < 8 → Ready w heads next (through t found s)
+  pub ready_inside : {heads next : List ℕ} {s : ℕ} → s ≡ start t.node target → Ready w heads next t → t.count < 8 → Ready w heads next (through t found s)
   ready_inside e ready free =
       record {
         sound = ready.sound;
         indexed = ready.indexed;
-        there = rw e (start_directory (unpack w).nodes t.directory target (sound_walkable w ready.sound).top ready.there);
+        there = rw e (start_directory (unpack w).nodes t.node target (sound_walkable w ready.sound).top ready.there);
         few = omega arith;
       }

@@ -1,29 +1,38 @@
 -- Walking names, resolving one and following a link: each returns the model's walk of what is left. Assumes nothing.
 use mathlib.Core.Path.{◌≡◌, refl, sym, ap, subst, ◌∙◌}
-use mathlib.Core.Bool.{true, false}
+use mathlib.Core.Bool.{Bool, true, false}
 use mathlib.Core.Logic.{inl, inr, ◌⊎◌, ◌≢◌}
-use mathlib.Core.List.{List}
-use Prim.Native.Nat.{ℕ, ◌-◌, ◌≤◌}
+use mathlib.Core.List.{List, [], ◌∷◌}
+use Prim.Native.Nat.{ℕ, ◌+◌, ◌-◌, ◌≤◌}
 use native.Mathlib.Omega.{arith}
 use borrow.Author.Tests.{eq-eqb, ne_eqb}
-use lib.ListN.{length}
-use lib.Seq.{length-take-le}
+use lib.Dec.{eqb}
+use lib.ListN.{length, get_or, take, drop}
+use Rattle.std.proofs.Common.{Fits, w8}
+use Rattle.std.proofs.lemmas.Result.{err_from_is_err_and}
+use Rattle.std.specs.Prelude.{Result}
 use Rattle.model.specs.Lists.{filled}
 use Rattle.model.specs.Paths.{longest_target, valid_names}
 use Rattle.model.specs.Sound.{sound_rows}
 use Rattle.model.specs.Tables.{a_link, node_at}
 use Rattle.model.specs.Words.{unpack}
 use Rattle.rows.specs.Stands.{node_row}
+use Rattle.rows.specs.Blocks.{name_of, block_of}
+use Rattle.rows.specs.declared.Block.{Block}
 use Rattle.rows.specs.declared.Target.{Target}
+use Rattle.paths.specs.declared.Next.{Next}
+use Rattle.paths.specs.declared.Next.TheVariants.{Name}
+use Rattle.paths.specs.Split.{next}
 use Rattle.paths.proofs.Splits.{next_ends}
+use Rattle.walk.specs.declared.Stretch.{Stretch}
 use Rattle.walk.specs.declared.Trail.{Trail}
-use Rattle.walk.proofs.Continues.{is_refused, not_refused}
+use Rattle.walk.specs.Trails.{followed, walked_from}
 use Rattle.walk.proofs.Found.{sound_walkable}
 use Rattle.walk.proofs.Steps.{TargetRead, link_in_range, target_read, started, no_link_left, ready_inside, follows_target}
 use Rattle.walk.proofs.Steps.{in_no_directory, node_met, resolves_link, stops_at_entry}
-use Rattle.walk.proofs.Steps.{next_name_met, block_names, Met, stops_by_slash, last_resolved, stopped_on_the_way, walks_on}
+use Rattle.walk.proofs.Steps.{NextName, next_name_met, block_names, Met, stops_by_slash, last_resolved, refused_whole, stopped_on_the_way, walks_on}
 use Rattle.walk.proofs.+follow_link_resolve_walk_names.Goals as goal
-use Rattle.walk.proofs.+follow_link_resolve_walk_names.Goals.{resolve-then-follow+else-node_kind-eq-LINK, resolve-else-follow}
+use Rattle.walk.proofs.+follow_link_resolve_walk_names.Goals.{resolve-else-follow-via-then-follow+else-node_kind-eq-LINK, resolve-else-follow-via-else-follow}
 
 -- FOLLOWING A LINK
 
@@ -39,8 +48,7 @@ short r = omega (arith, r.room, r.count, r.good.short)
 
 pub follow_link-returns-then-trail-ge-LINKS : goal.follow_link-returns-then-trail-ge-LINKS
 follow_link-returns-then-trail-ge-LINKS t c =
-    c.turn_away.ensures
-    ∙ no_link_left c.args.words.now c.args.trail c.args.found (node_at (unpack c.args.words.now).nodes c.args.node).target c.if-trail-ge-LINKS.true
+    no_link_left c.args.words.now c.args.trail c.args.found (node_at (unpack c.args.words.now).nodes c.args.node).target c.if-trail-ge-LINKS.true
 
 pub follow_link-overflow_sub-node : goal.follow_link-overflow_sub-node
 follow_link-overflow_sub-node t c =
@@ -55,24 +63,19 @@ follow_link-target_in-target-requires t c =
     let h = range.1 in
     (c.requires.ready.indexed.stands, omega arith)
 
-pub follow_link-slice_bounds-bytes-end : goal.follow_link-slice_bounds-bytes-end
-follow_link-slice_bounds-bytes-end t c =
+pub follow_link-shared_ref_as_front-names : goal.follow_link-shared_ref_as_front-names
+follow_link-shared_ref_as_front-names t c =
     let r = known c.args.words.now c.requires.ready.sound c.args.node c.requires.link c.target_in-target.ensures in
     omega (arith, short r, r.room)
-
-pub follow_link-slice_bounds-walk_names-end : goal.follow_link-slice_bounds-walk_names-end
-follow_link-slice_bounds-walk_names-end t c =
-    let r = known c.args.words.now c.requires.ready.sound c.args.node c.requires.link c.target_in-target.ensures in
-    sym (length-take-le _ _ (short r))
 
 pub follow_link-walk_names-requires : goal.follow_link-walk_names-requires
 follow_link-walk_names-requires t c =
     let w = c.args.words.now in
     let target = (node_at (unpack w).nodes c.args.node).target in
     let r = known w c.requires.ready.sound c.args.node c.requires.link c.target_in-target.ensures in
-    let from = started c.args.trail.directory target _ _ r.first c.start_of-start.ensures in
+    let from = started c.args.trail.node target _ _ r.first c.start_of-start.ensures in
     let less = c.decreases in
-    let added = c.through_link.ensures in (
+    let added = c.through_link-onward.ensures in (
       omega (arith, ap (λ (u : Trail). u.count) added),
       (
         rw added (ready_inside w c.args.trail c.args.found target from c.requires.ready c.if-trail-ge-LINKS.false),
@@ -85,8 +88,8 @@ follow_link-returns t c =
     let w = c.args.words.now in
     let target = (node_at (unpack w).nodes c.args.node).target in
     let r = known w c.requires.ready.sound c.args.node c.requires.link c.target_in-target.ensures in
-    let from = started c.args.trail.directory target _ _ r.first c.start_of-start.ensures in
-    follows_target w c.args.trail c.args.found target c.if-trail-ge-LINKS.false c.through_link.ensures from r.whole c.walk_names.ensures
+    let from = started c.args.trail.node target _ _ r.first c.start_of-start.ensures in
+    follows_target w c.args.trail c.args.found target c.if-trail-ge-LINKS.false c.through_link-onward.ensures from r.whole c.walk_names.ensures
 
 -- RESOLVING A NAME
 
@@ -115,86 +118,75 @@ resolve-returns t c =
     let w = c.args.words.now in
     let met = node_met c.requires.ready c.args.name c.find_entry-found.ensures.0 c.node_found-node.ensures in
     let stays : ((node_at (unpack w).nodes c.node_found-node.result).kind ≢ a_link) ⊎ (c.args.follow ≡ false) =
-    elim c.if-follow.branch [
-      | resolve-then-follow+else-node_kind-eq-LINK v ↦ inl (λ k. v.if-node_kind-eq-LINK.false (v.node_kind.ensures ∙ k))
-      | resolve-else-follow v ↦ inr v.if-follow.false
+    elim c.else-follow.branch [
+      | resolve-else-follow-via-then-follow+else-node_kind-eq-LINK v ↦ inl (λ k. v.if-node_kind-eq-LINK.false (v.node_kind.ensures ∙ k))
+      | resolve-else-follow-via-else-follow v ↦ inr v.if-follow.false
     ] in
-    c.stop_at.ensures
-    ∙ stops_at_entry w (sound_walkable w c.requires.ready.sound) c.args.trail c.args.name c.node_found-node.result met c.args.follow c.requires.named
-    stays
+    stops_at_entry w (sound_walkable w c.requires.ready.sound) c.args.trail c.args.name c.node_found-node.result met c.args.follow c.requires.named stays
 
 -- WALKING NAMES
+
+-- what the loop knows of the name that comes next
+named : {path : List ℕ} {at start size : ℕ} → ((i : ℕ) → Fits w8 (get_or path i 0)) → valid_names (drop at path) ≡ true → {r : Next} → r ≡ next path at →
+    r ≡ Name start size → NextName path at start size
+named bytes valid e is = next_name_met _ _ _ _ (λ i. (bytes i).fits) valid (sym e ∙ is)
+
+-- and where it has resolved that name
+resolved : {w path : List ℕ} {follow_last : Bool} {at : ℕ} {trail : Trail} {start size : ℕ} {met : Result Stretch ℕ} → NextName path at start size →
+    {b : Block} → b ≡ block_of (take size (drop start path)) → {follow : Bool} → follow ≡ followed (eqb (start + size) (length path)) follow_last →
+    met ≡ walked_from w follow trail (name_of b ∷ []) → Met w path follow_last at trail start size met
+resolved n {b} made {follow} asked is = record { name = n; block = b; made = made; follow = follow; asked = asked; is = is }
 
 pub walk_names-loop-start-init : goal.walk_names-loop-start-init
 walk_names-loop-start-init t c = record { ready = c.requires.ready; valid = c.requires.valid; more = omega arith; same = refl }
 
-pub walk_names-returns-in_default : goal.walk_names-returns-in_default
-walk_names-returns-in_default t c =
-    c.stop_at.ensures
-    ∙ stops_by_slash c.loop-start.invariant (next_ends c.args.path.now c.loop-start.at (sym c.next_name.ensures ∙ c.in_default.is))
+pub walk_names-returns : goal.walk_names-returns
+walk_names-returns t c = stops_by_slash c.loop-start.invariant (next_ends c.args.path.now c.loop-start.at (sym c.next_name.ensures ∙ c.in_default.is))
 
 pub walk_names-block_from-name-requires : goal.walk_names-block_from-name-requires
 walk_names-block_from-name-requires t c =
-    let n = next_name_met c.args.path.now _ _ _ (λ i. (c.type_inv.path i).fits) c.loop-start.invariant.valid (sym c.next_name.ensures ∙ c.in-Name.is) in
+    let n = named c.type_inv.path c.loop-start.invariant.valid c.next_name.ensures c.in-Name.is in
     (n.inside, n.short)
 
-pub walk_names-overflow_add-end : goal.walk_names-overflow_add-end
-walk_names-overflow_add-end t c =
-    let n = next_name_met c.args.path.now _ _ _ (λ i. (c.type_inv.path i).fits) c.loop-start.invariant.valid (sym c.next_name.ensures ∙ c.in-Name.is) in
+pub walk_names-overflow_add-at : goal.walk_names-overflow_add-at
+walk_names-overflow_add-at t c =
+    let n = named c.type_inv.path c.loop-start.invariant.valid c.next_name.ensures c.in-Name.is in
     omega (arith, n.inside)
 
-pub walk_names-resolve-met-requires : goal.walk_names-resolve-met-requires
-walk_names-resolve-met-requires t c =
-    let n = next_name_met c.args.path.now _ _ _ (λ i. (c.type_inv.path i).fits) c.loop-start.invariant.valid (sym c.next_name.ensures ∙ c.in-Name.is) in
+pub walk_names-resolve-requires : goal.walk_names-resolve-requires
+walk_names-resolve-requires t c =
+    let n = named c.type_inv.path c.loop-start.invariant.valid c.next_name.ensures c.in-Name.is in
     let less = c.decreases in
     let more = c.loop-start.invariant.more in
     (omega arith, (c.loop-start.invariant.ready, block_names c.args.path.now _ _ _ n _ c.block_from-name.ensures))
 
+pub walk_names-returns-in_err-met : goal.walk_names-returns-in_err-met
+walk_names-returns-in_err-met t c =
+    let n = named c.type_inv.path c.loop-start.invariant.valid c.next_name.ensures c.in-Name.is in
+    let met = resolved n c.block_from-name.ensures c.is_followed-follow.ensures c.in_err-met.ensures in
+    let p = err_from_is_err_and c.from_residual.result c.from_residual.ensures.1 in
+    rw (p.1, p.2) (refused_whole c.loop-start.invariant met)
+
 pub walk_names-returns-then-is_last : goal.walk_names-returns-then-is_last
 walk_names-returns-then-is_last t c =
-    let n = next_name_met c.args.path.now _ _ _ (λ i. (c.type_inv.path i).fits) c.loop-start.invariant.valid (sym c.next_name.ensures ∙ c.in-Name.is) in
-    let met : Met c.args.words.now c.args.path.now c.args.follow_last c.loop-start.at c.loop-start.trail c.in-Name.start c.in-Name.length c.resolve-met.result =
-    record {
-      name = n;
-      block = c.block_from-name.result;
-      made = c.block_from-name.ensures;
-      follow = c.is_followed-follow.result;
-      asked = c.is_followed-follow.ensures;
-      is = c.resolve-met.ensures;
-    } in
+    let n = named c.type_inv.path c.loop-start.invariant.valid c.next_name.ensures c.in-Name.is in
+    let met = resolved n c.block_from-name.ensures c.is_followed-follow.ensures c.in_ok-met.ensures in
     last_resolved c.loop-start.invariant met (eq-eqb _ _ c.if-is_last.true)
 
-pub walk_names-returns-in-Refused : goal.walk_names-returns-in-Refused
-walk_names-returns-in-Refused t c =
-    let n = next_name_met c.args.path.now _ _ _ (λ i. (c.type_inv.path i).fits) c.loop-start.invariant.valid (sym c.next_name.ensures ∙ c.in-Name.is) in
-    let met : Met c.args.words.now c.args.path.now c.args.follow_last c.loop-start.at c.loop-start.trail c.in-Name.start c.in-Name.length c.resolve-met.result =
-    record {
-      name = n;
-      block = c.block_from-name.result;
-      made = c.block_from-name.ensures;
-      follow = c.is_followed-follow.result;
-      asked = c.is_followed-follow.ensures;
-      is = c.resolve-met.ensures;
-    } in
-    c.turn_away.ensures
-    ∙ stopped_on_the_way c.loop-start.invariant met (ne_eqb _ _ c.if-is_last.false) (sym c.only_directory.ensures ∙ c.in-Refused.is)
+pub walk_names-returns-in_err-only_directory : goal.walk_names-returns-in_err-only_directory
+walk_names-returns-in_err-only_directory t c =
+    let n = named c.type_inv.path c.loop-start.invariant.valid c.next_name.ensures c.in-Name.is in
+    let met = resolved n c.block_from-name.ensures c.is_followed-follow.ensures c.in_ok-met.ensures in
+    let p = err_from_is_err_and c.from_residual-in_err-only_directory.result c.from_residual-in_err-only_directory.ensures.1 in
+    rw (p.1, p.2) (stopped_on_the_way c.loop-start.invariant met (ne_eqb _ _ c.if-is_last.false) (sym c.in_err-only_directory.ensures))
 
 pub walk_names-loop-start-smaller : goal.walk_names-loop-start-smaller
 walk_names-loop-start-smaller t c =
-    let n = next_name_met c.args.path.now _ _ _ (λ i. (c.type_inv.path i).fits) c.loop-start.invariant.valid (sym c.next_name.ensures ∙ c.in-Name.is) in
+    let n = named c.type_inv.path c.loop-start.invariant.valid c.next_name.ensures c.in-Name.is in
     omega (arith, n.onward, n.inside)
 
 pub walk_names-loop-start-preserved : goal.walk_names-loop-start-preserved
 walk_names-loop-start-preserved t c =
-    let n = next_name_met c.args.path.now _ _ _ (λ i. (c.type_inv.path i).fits) c.loop-start.invariant.valid (sym c.next_name.ensures ∙ c.in-Name.is) in
-    let met : Met c.args.words.now c.args.path.now c.args.follow_last c.loop-start.at c.loop-start.trail c.in-Name.start c.in-Name.length c.resolve-met.result =
-    record {
-      name = n;
-      block = c.block_from-name.result;
-      made = c.block_from-name.ensures;
-      follow = c.is_followed-follow.result;
-      asked = c.is_followed-follow.ensures;
-      is = c.resolve-met.ensures;
-    } in
-    let going = ap is_refused (sym c.only_directory.ensures) ∙ not_refused _ c.in_default-only_directory.not-Refused in
-    rw c.trail_of-trail.ensures (walks_on c.loop-start.invariant met (ne_eqb _ _ c.if-is_last.false) going)
+    let n = named c.type_inv.path c.loop-start.invariant.valid c.next_name.ensures c.in-Name.is in
+    let met = resolved n c.block_from-name.ensures c.is_followed-follow.ensures c.in_ok-met.ensures in
+    walks_on c.loop-start.invariant met (ne_eqb _ _ c.if-is_last.false) (sym c.in_ok-only_directory.ensures)

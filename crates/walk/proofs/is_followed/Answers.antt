@@ -2,10 +2,10 @@
 use Rattle.walk.specs.Trails.{followed}
 use Rattle.walk.proofs.is_followed.Goals as goal
 
-pub returns-then-is_last : goal.returns-then-is_last
+pub returns-then-not-is_last : goal.returns-then-not-is_last
 unfolding followed
-returns-then-is_last c = rw c.if-is_last.true
+returns-then-not-is_last c = rw c.if-not-is_last.true
 
-pub returns-else-is_last : goal.returns-else-is_last
+pub returns-else-not-is_last : goal.returns-else-not-is_last
 unfolding followed
-returns-else-is_last c = rw c.if-is_last.false
+returns-else-not-is_last c = rw c.if-not-is_last.false

@@ -1,26 +1,29 @@
--- The places of rows: each is read in its turn, and what is left to read stays blank. Assumes nothing.
-use native.Mathlib.Omega.{arith}
+-- The places of rows: the closure reads one place of each. Assumes nothing.
+use mathlib.Core.Path.{ap}
+use lib.ListN.{length}
+use Rattle.std.proofs.Common.{rules, tests, arith}
+use Rattle.std.proofs.lemmas.Iterator.Consumers.{YieldsList-from_shown}
+use Rattle.std.proofs.lemmas.Iterator.Adapters.{serves_from_places}
+use Rattle.std.proofs.lemmas.List.{get_or_default}
+use Rattle.std.specs.Array.{list_steps}
 use Rattle.laws.proofs.Each.{each_at}
-use Rattle.walk.proofs.Places.{filling_starts, filling_more, filling_done}
+use Rattle.rows.specs.Stands.{Stands}
+use Rattle.walk.specs.Trails.{Row, place_in}
+use Rattle.walk.proofs.Places.{mapped}
 use Rattle.walk.proofs.places_in.Goals as goal
 
-pub loop-at-init : goal.loop-at-init
-loop-at-init c = filling_starts _ _ _ c.blank-places.ensures
-
-pub bounds-rows-at : goal.bounds-rows-at
-bounds-rows-at c = let few = c.requires.1.few in omega arith
-
-pub place_in-requires : goal.place_in-requires
-place_in-requires c = let pre = c.requires in (pre.0, each_at pre.1.each (omega arith) c.loop-at.at)
-
-pub bounds-places-at : goal.bounds-places-at
-bounds-places-at c = let few = c.requires.1.few in omega arith
-
-pub overflow_add-at : goal.overflow_add-at
-overflow_add-at c = let few = c.requires.1.few in omega arith
-
-pub loop-at-preserved : goal.loop-at-preserved
-loop-at-preserved c = filling_more _ _ _ c.requires.1 c.loop-at.invariant c.loop-at-test.true c.place_in.ensures
+pub map-requires : goal.map-requires
+map-requires c = (
+  omega arith,
+  (
+    omega arith,
+    (
+      omega arith,
+      serves_from_places (YieldsList-from_shown list_steps (λ x. x) (λ s. s) (λ s t e. ap length e) (λ s x t e. e) c.args.rows)
+          (λ x q k. search (rules, tests)) (λ x k h e. let pre : Stands c.args.words.now × Row x = (c.requires.0, rw e (rw (get_or_default c.args.rows k x 0 h) (each_at c.requires.1.each (omega arith) k))) in search rules),
+    ),
+  ),
+)
 
 pub returns : goal.returns
-returns c = filling_done _ _ _ c.requires.1 c.loop-at.invariant c.loop-at-test.false
+returns c = mapped _ (place_in c.args.words.now) _ (λ x y q k. search (rules, tests)) c.args.rows c.map.result 0 8 c.requires.1.room c.map.ensures.items.long c.map.ensures.items.each
