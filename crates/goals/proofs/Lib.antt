@@ -1,2 +1,3 @@
+pub mod Blanks
 pub mod Back
 pub mod Determined

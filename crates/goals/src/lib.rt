@@ -6,8 +6,8 @@ ghost use Rattle.goals.specs.Goals.{node_at_end, goal_of};
 
 use rows::{Block, ROOT};
 
-// A directory's node and a name in it.
-#[derive(Clone, Copy)]
+// A directory's node and a name in it; blank by default, where no place is.
+#[derive(Clone, Copy, Default)]
 pub struct Place {
     pub directory: u16,
     pub name: Block,
@@ -36,15 +36,14 @@ pub fn node_at_end(stop: Stop) -> u16
     match stop {
         Stop::Refused(_) => 0,
         Stop::Root => ROOT,
-        Stop::Entry { place: _, node } => node,
+        Stop::Entry { node, .. } => node,
     }
 }
 
 pub fn node_of(walk: Walk) -> u16
     ensures { result ≡ (goal_of walk).node }
 {
-    let stop = walk.stop;
-    node_at_end(stop)
+    node_at_end(walk.stop)
 }
 
 pub fn is_absent(walk: Walk) -> bool

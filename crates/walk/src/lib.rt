@@ -13,7 +13,7 @@ ghost use Rattle.model.specs.Walk.{walk};
 ghost use Rattle.rows.specs.Blocks.{Named, name_of};
 ghost use Rattle.rows.specs.Stands.{Stands};
 ghost use Rattle.index.specs.Indexed.{Indexed};
-ghost use Rattle.goals.specs.Goals.{blank, walked};
+ghost use Rattle.goals.specs.Goals.{walked};
 ghost use Rattle.walk.specs.Trails.{stopped, through, followed, only_directory, walked_from, link_walked, place_in, Row, RowsKept, Ready};
 
 use goals::{Place, Stop, Walk};
@@ -214,27 +214,12 @@ fn place_in(words: &[u32], found: u16) -> Place
     ensures { result ≡ place_in words.now found }
 {
     if found == 0 {
-        return blank();
+        return Place::default();
     }
     let row = found as usize - 1;
     Place {
         directory: entry_directory(words, row),
         name: entry_name(words, row),
-    }
-}
-
-fn blank() -> Place
-    ensures { result ≡ blank }
-{
-    let name = Block {
-        first: 0,
-        second: 0,
-        third: 0,
-        fourth: 0,
-    };
-    Place {
-        directory: 0,
-        name: name,
     }
 }
 
@@ -245,6 +230,6 @@ pub fn refuse(number: u8) -> Walk
     Walk {
         stop: Stop::Refused(number),
         count: 0,
-        elements: [blank(); 8],
+        elements: [Place::default(); 8],
     }
 }
