@@ -5,7 +5,7 @@ use mathlib.Core.Bool.{Bool, true, false, not, ◌&&◌, ◌||◌}
 use mathlib.Core.List.{List, [], ◌∷◌}
 use Prim.Native.Nat.{ℕ, ◌≤◌, ◌<◌}
 use native.Mathlib.Omega.{arith}
-use borrow.Author.Tests.{eq-eqb, ne_eqb}
+use borrow.Author.Tests.{eq-eqb, ne_eqb, eqb-true, eqb-false}
 use lib.Dec.{eqb}
 use lib.ListN.{length}
 use Rattle.model.specs.Lists.{empty}
@@ -16,6 +16,7 @@ use Rattle.model.specs.Listing.{line}
 use Rattle.model.specs.declared.Answer.{Answer}
 use Rattle.model.specs.declared.Answer.TheVariants.{Refused}
 use Rattle.model.specs.declared.Verdict.{Verdict}
+use Rattle.laws.proofs.Bools.{not_true}
 use Rattle.service.specs.Serves.{Serves}
 use Rattle.service.proofs.Demands.{answer_is, taken_is}
 use Rattle.service.proofs.Verdicts.{serve_takes}
@@ -62,6 +63,13 @@ unfolding empty
 not_empty [] f = absurd (f refl)
 not_empty (b ∷ s) f = refl
 
+-- what `is_empty` answers
+pub none_left : (s : List ℕ) → true ≡ eqb (length s) 0 → length s ≡ 0
+none_left s e = eqb-true (length s) 0 (sym e)
+
+pub some_left : (s : List ℕ) → false ≡ eqb (length s) 0 → length s ≡ 0 → ⊥
+some_left s e = eqb-false (length s) 0 (sym e)
+
 -- a destination with room for the longest line has room for every line
 pub room_for_line : (place : ℕ) (a : Answer) {size : ℕ} → longest_line ≤ size → length (line place a) ≤ size
 room_for_line place a h = omega (arith, line_length place a)
@@ -92,10 +100,10 @@ module _ (w s : List ℕ) (last : Bool) (place : ℕ) (out : List ℕ) where
       same_taken : r.taken ≡ taken s
       same_taken = taken_is served ∙ serve_takes w s
 
-      pub step_too_short_yet : r.taken ≡ 0 → last ≡ false → stepped More v out ≡ next_line w s last place out
+      pub step_too_short_yet : r.taken ≡ 0 → not last ≡ true → stepped More v out ≡ next_line w s last place out
       step_too_short_yet e p =
           let q = taken_nothing s (sym same_taken ∙ e) in
-          ap (λ l. stepped More l out) (served.words ∙ ap (λ o. o.words) (serve_short w s q)) ∙ sym (next_more w s last place out (not_empty s f) h q p)
+          ap (λ l. stepped More l out) (served.words ∙ ap (λ o. o.words) (serve_short w s q)) ∙ sym (next_more w s last place out (not_empty s f) h q (not_true last p))
 
       -- and the line that was written
       module _ {l : ℕ} {o : List ℕ} (put : Puts out 0 (line place r.answer) l o) where
@@ -110,7 +118,7 @@ module _ (w s : List ℕ) (last : Bool) (place : ℕ) (out : List ℕ) where
             ∙ ap (λ c. listed c place out (serve w s)) (sym p)
             ∙ sym (next_listed w s last place out (not_empty s f) h (rw p q))
 
-        pub step_short_line : r.taken ≡ 0 → last ≡ true → stepped (Last l) v o ≡ next_line w s last place out
+        pub step_short_line : r.taken ≡ 0 → not last ≡ false → stepped (Last l) v o ≡ next_line w s last place out
         unfolding line_step
         step_short_line e p = line_listed true (taken_nothing s (sym same_taken ∙ e)) (simp p)
 

@@ -70,29 +70,19 @@ fn next_line(
     requires { Tested words.old heads.old next.old setting.is_sound }
     ensures { (stepped result words.new out.new ≡ next_line words.old bytes.now setting.last setting.place out.old) × (Tested words.new heads.new next.new setting.is_sound) }
 {
-    let last = setting.last;
-    let place = setting.place;
-    if bytes.len() == 0 {
-        if last {
-            return Step::Over;
-        }
-        return Step::More;
+    if bytes.is_empty() {
+        return if setting.last { Step::Over } else { Step::More };
     }
     if out.len() < LONGEST_LINE {
         return Step::Full;
     }
     let verdict = serve_tested(words, heads, next, bytes, setting.is_sound);
     let taken = verdict.taken;
-    let answer = verdict.answer;
-    if taken == 0 {
-        if last {
-            let length = put_line(out, place, answer);
-            return Step::Last { length };
-        }
+    if taken == 0 && !setting.last {
         return Step::More;
     }
-    let length = put_line(out, place, answer);
-    if place == u64::MAX {
+    let length = put_line(out, setting.place, verdict.answer);
+    if taken == 0 || setting.place == u64::MAX {
         return Step::Last { length };
     }
     Step::Line { taken, length }

@@ -17,33 +17,27 @@ pub fn list_part(words: &mut [u32], bytes: &[u8], last: bool, place: u64, out: &
     let mut from = 0;
     let mut at = 0;
     let mut place = place;
-    loop {
+    let (length, stop) = loop {
         let rest = &bytes[from..];
         let setting = Setting {
             is_sound,
             last,
             place,
         };
-        let step = next_line(words, &mut heads, &mut next, rest, setting, &mut out[at..]);
-        match step {
+        match next_line(words, &mut heads, &mut next, rest, setting, &mut out[at..]) {
             Step::Line { taken, length } => {
                 from += taken;
                 at += length;
                 place += 1;
             }
-            Step::Last { length } => return ended(from, at + length, place, Stop::Over),
-            Step::Over => return ended(from, at, place, Stop::Over),
-            Step::More => return ended(from, at, place, Stop::More),
-            Step::Full => return ended(from, at, place, Stop::Full),
+            Step::Last { length } => break (at + length, Stop::Over),
+            Step::Over => break (at, Stop::Over),
+            Step::More => break (at, Stop::More),
+            Step::Full => break (at, Stop::Full),
         }
-    }
-}
-
-fn ended(taken: usize, length: usize, place: u64, stop: Stop) -> Part
-    ensures { result ≡ record { taken = taken; length = length; place = place; stop = stop } }
-{
+    };
     Part {
-        taken,
+        taken: from,
         length,
         place,
         stop,

@@ -1,41 +1,26 @@
--- Bytes moved to the front one by one are those that stood behind: none is overwritten before it is read. Assumes nothing.
-use mathlib.Core.Path.{◌≡◌, refl, sym, ap, ◌∙◌}
+-- Bytes moved to the front are those that stood behind, and the lines of what is held fit. Assumes nothing.
+use mathlib.Core.Path.{◌≡◌, sym, ap, ◌∙◌}
 use mathlib.Core.Bool.{Bool}
-use mathlib.Core.List.{List, [], ◌∷◌}
-use Prim.Native.Nat.{ℕ, suc, ◌+◌, ◌≤◌, ◌<◌}
+use mathlib.Core.List.{List, ◌++◌}
+use Prim.Native.Nat.{ℕ, ◌+◌, ◌≤◌}
 use native.Mathlib.Omega.{arith}
-use lib.ListN.{length, take, drop, set, get_or, length-take, length-drop}
-use lib.Seq.{sets, get_or-set_other, get_or-drop, length-take-le}
+use lib.ListN.{length, take, drop, length-take, length-drop}
+use lib.Seq.{paste, sets-eq, length-take-le}
 use Rattle.listing.specs.declared.Part.{Part}
 use Rattle.lines.specs.Puts.{Puts}
 use Rattle.listing.specs.Parts.{filled, list_part}
-use Rattle.lines.proofs.Runs.{puts_next, puts_length}
+use Rattle.lines.proofs.Runs.{puts_length}
 use Rattle.listing.proofs.PartFacts.{answered_facts}
 
--- what stands behind the bytes that were put is as it was
-untouched : (l : List ℕ) (i : ℕ) (vs : List ℕ) (j : ℕ) → i + length vs ≤ j → get_or (sets l i vs) j 0 ≡ get_or l j 0
-untouched l i [] j h = refl
-untouched l i (v ∷ vs) j h =
-    untouched (set l i v) (suc i) vs j (omega arith) ∙ get_or-set_other l i j v 0 (λ e. let z : ⊥ = omega arith in z)
-
-module _ {l m : List ℕ} (from i : ℕ) (p : Puts l 0 (take i (drop from l)) (0 + i) m) where
-  pub put_next : from + i < length l → Puts l 0 (take (i + 1) (drop from l)) (0 + (i + 1)) (set m i (get_or m (from + i) 0))
-  put_next h =
-      let k : i < length (drop from l) = omega (arith, length-drop from l) in
-      let e : get_or m (from + i) 0 ≡ get_or (drop from l) i 0 =
-      ap (λ x. get_or x (from + i) 0) p.bytes_are
-      ∙ untouched l 0 (take i (drop from l)) (from + i) (omega (arith, length-take-le i (drop from l) (omega arith)))
-      ∙ sym (get_or-drop from l i 0)
-      in
-      let z : 0 + i ≡ i = omega arith in
-      let q = puts_next (drop from l) i k p in
-      rw e (rw z at q)
-
-  pub put_all : {kept : ℕ} → i ≤ kept → kept ≤ i → Puts l 0 (take kept (drop from l)) kept m
-  put_all {kept} h k =
-      let e : 0 + i ≡ kept = omega arith in
-      let f : i ≡ kept = omega arith in
-      rw (e, f) at p
+-- what `copy_within` leaves is as many stores at the front
+pub put_front : (l : List ℕ) (from kept : ℕ) {m : List ℕ} → kept ≤ length (drop from l) → m ≡ paste l 0 (drop from l) kept → Puts l 0 (take kept (drop from l)) kept m
+put_front l from kept {m} h e =
+    let n : length (take kept (drop from l)) ≡ kept = length-take-le kept (drop from l) h in
+    let k : 0 + length (take kept (drop from l)) ≤ length l = omega (arith, length-drop from l) in
+    record {
+      end_is = omega arith;
+      bytes_are = e ∙ ap (λ j. take 0 l ++ take kept (drop from l) ++ drop (0 + j) l) (sym n) ∙ sym (sets-eq (take kept (drop from l)) l 0 k);
+    }
 
 -- what was kept is within the buffer
 pub kept_fits : (l : List ℕ) (from kept : ℕ) {m : List ℕ} {end : ℕ} → Puts l 0 (take kept (drop from l)) end m → end ≤ length m

@@ -1,6 +1,6 @@
 #![tactic(auto)]
 // Prints a line for each record of standard input: document 01, 'The listing'.
-ghost use Rattle.std.specs.Prelude.{◌≡◌, ◌-◌, ◌≤◌, length, take, drop};
+ghost use Rattle.std.specs.Prelude.{◌≡◌, ◌-◌, ◌≤◌, IfSome, length, take, drop};
 ghost use Rattle.lines.specs.Puts.{Puts};
 
 use listing::{Part, Stop};
@@ -18,7 +18,6 @@ const OUTPUT_BYTES: usize = 65536;
 struct Standing {
     unread: usize,
     place: u64,
-    over: bool,
 }
 
 // Moves the bytes from `from` up to `held` to the front, and answers how many they are.
@@ -27,25 +26,13 @@ fn keep_unread(bytes: &mut [u8], from: usize, held: usize) -> usize
     ensures puts { Puts bytes.old 0 (take (held - from) (drop from bytes.old)) result bytes.new }
     ensures upper_bound { result ≤ length bytes.new }
 {
-    let kept = held - from;
-    let mut i = 0;
-    while i < kept {
-        bytes[i] = bytes[from + i];
-        i += 1;
-    }
-    kept
+    bytes.copy_within(from..held, 0);
+    held - from
 }
 
 // Says on standard error what went wrong; the listing ends.
-fn failed(rt: &HostRuntime, standing: Standing, message: &[u8]) -> Standing
-    ensures { result.unread ≤ 0 }
-{
+fn say_failed(rt: &HostRuntime, message: &[u8]) {
     let _ = rt.stderr().write_all(message);
-    Standing {
-        unread: 0,
-        place: standing.place,
-        over: true,
-    }
 }
 
 // The lines of the first `held` bytes.
@@ -71,53 +58,41 @@ fn turn(
     bytes: &mut [u8],
     standing: Standing,
     out: &mut [u8],
-) -> Standing
+) -> Option<Standing>
     requires { standing.unread ≤ length bytes.old }
-    ensures { result.unread ≤ length bytes.new }
+    ensures { IfSome result (λ next. next.unread ≤ length bytes.new) }
 {
     let unread = standing.unread;
-    let place = standing.place;
-    let got = match rt.stdin().read(&mut bytes[unread..]) {
-        Ok(got) => got,
-        Err(_) => return failed(rt, standing, b"verdicts: standard input cannot be read\n"),
+    let Ok(got) = rt.stdin().read(&mut bytes[unread..]) else {
+        say_failed(rt, b"verdicts: standard input cannot be read\n");
+        return None;
     };
     let held = unread + got;
-    let part = list_held(words, bytes, held, got == 0, place, out);
-    let length = part.length;
-    if rt.stdout().write_all(&out[..length]).is_err() {
-        return failed(
-            rt,
-            standing,
-            b"verdicts: standard output cannot be written\n",
-        );
+    let part = list_held(words, bytes, held, got == 0, standing.place, out);
+    if rt.stdout().write_all(&out[..part.length]).is_err() {
+        say_failed(rt, b"verdicts: standard output cannot be written\n");
+        return None;
     }
-    let place = part.place;
-    let stop = part.stop;
-    if let Stop::Over = stop {
-        return Standing {
-            unread: 0,
-            place,
-            over: true,
-        };
-    }
-    Standing {
-        unread: keep_unread(bytes, part.taken, held),
-        place,
-        over: false,
+    match part.stop {
+        Stop::Over => None,
+        Stop::More | Stop::Full => Some(Standing {
+            unread: keep_unread(bytes, part.taken, held),
+            place: part.place,
+        }),
     }
 }
 
-// Nothing says that the input ends, so the turns are counted down from a number that no run uses up.
+// Nothing says that the input ends, so the turns are counted, up to a number that no run reaches.
 fn list_all(rt: &HostRuntime, words: &mut [u32], bytes: &mut [u8], out: &mut [u8]) {
     let mut standing = Standing {
         unread: 0,
         place: 1,
-        over: false,
     };
-    let mut turns = u64::MAX;
-    while turns > 0 && !standing.over {
-        standing = turn(rt, words, bytes, standing, out);
-        turns -= 1;
+    for _ in 0..u64::MAX {
+        let Some(next) = turn(rt, words, bytes, standing, out) else {
+            return;
+        };
+        standing = next;
     }
 }
 

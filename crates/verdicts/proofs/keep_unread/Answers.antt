@@ -1,14 +1,13 @@
--- A further byte stands at the front behind those that were passed, and in the end all do. Assumes nothing.
-use Rattle.std.proofs.Common.{arith}
-use Rattle.verdicts.proofs.Kept.{put_next, put_all, kept_fits}
+-- The bytes between stand at the front in the end. Assumes nothing.
+use Rattle.std.proofs.Common.{◌-◌, length-drop, arith}
+use Rattle.verdicts.proofs.Kept.{put_front, kept_fits}
 use Rattle.verdicts.proofs.keep_unread.Goals as goal
 
-pub loop-i-preserved : goal.loop-i-preserved
-loop-i-preserved c = (omega arith, put_next c.args.from _ c.loop-i.invariant.1 (omega arith))
-
 pub returns-clause-puts : goal.returns-clause-puts
-returns-clause-puts c = put_all c.args.from _ c.loop-i.invariant.1 c.loop-i.invariant.0 c.loop-i-test.false
+returns-clause-puts c =
+    put_front c.args.bytes.now c.args.from (c.args.held - c.args.from) (omega (arith, length-drop c.args.from c.args.bytes.now)) c.copy_within.ensures.after
 
 pub returns-clause-upper_bound : goal.returns-clause-upper_bound
 returns-clause-upper_bound c =
-    kept_fits c.args.bytes.now c.args.from _ (put_all c.args.from _ c.loop-i.invariant.1 c.loop-i.invariant.0 c.loop-i-test.false)
+    kept_fits c.args.bytes.now c.args.from (c.args.held - c.args.from)
+    (put_front c.args.bytes.now c.args.from (c.args.held - c.args.from) (omega (arith, length-drop c.args.from c.args.bytes.now)) c.copy_within.ensures.after)
