@@ -11,7 +11,7 @@ use lib.ListN.{length, get_or, take, drop, replicate, length-take}
 use Rattle.model.specs.Lists.{same, all, filled}
 use Rattle.model.specs.Paths.{Name, longest_name, name_byte, valid_name, dot}
 use Rattle.model.specs.Words.{bits, words, bytes, pack_name, unpack_name}
-use Rattle.laws.proofs.Bools.{and_left, and_right, both, and_false, is_false, and_true, and_joins, stopped, passed}
+use Rattle.laws.proofs.Bools.{clash, and_left, and_right, both, and_false, is_false, and_true, and_joins, stopped, passed}
 use lib.Seq.{take-take, length-take-le}
 use Rattle.laws.proofs.Each.{Each, none, one, each_take, each_drop}
 use Rattle.laws.proofs.Pieces.{Byte, Word, same_equal, equal_same, bytes_of_words, words_of_bytes, filled_length, filled_bytes, bytes_are_bytes}
@@ -97,15 +97,17 @@ module _ (n : ℕ) (b : Block) where
     none_left : n - 8 ≡ 0
     none_left = omega arith
 
-    pub more_behind : Word b.third → Word b.fourth → (b.third ∷ b.fourth ∷ [] ≡ 0 ∷ 0 ∷ [] → ⊥) → false ≡ fits n (bytes (block_words b))
+    pub more_behind : Word b.third → Word b.fourth → (eqb b.third 0 && eqb b.fourth 0) ≡ false → false ≡ fits n (bytes (block_words b))
     more_behind p q more =
         sym (and_false (fits n front) (fits (n - 8) back)
-        (λ _. ap (λ m. fits m back) none_left ∙ is_false (fits 0 back) (λ e. more (zero_words b.third b.fourth p q e))))
+        (λ _. ap (λ m. fits m back) none_left ∙ is_false (fits 0 back) (λ e. clash (ap (λ l. eqb (get_or l 0 0) 0 && eqb (get_or l 1 0) 0) (zero_words b.third b.fourth p q e)) more)))
         ∙ halves
 
-    pub none_behind : {r : Bool} → b.third ≡ 0 → b.fourth ≡ 0 → r ≡ fits n front → r ≡ fits n (bytes (block_words b))
+    pub none_behind : {r : Bool} → (eqb b.third 0 && eqb b.fourth 0) ≡ true → r ≡ fits n front → r ≡ fits n (bytes (block_words b))
     unfolding bytes bits fits byte_fits
-    none_behind y z e =
+    none_behind both_none e =
+        let y = eqb-true b.third 0 (and_left (eqb b.third 0) (eqb b.fourth 0) both_none) in
+        let z = eqb-true b.fourth 0 (and_right (eqb b.third 0) (eqb b.fourth 0) both_none) in
         let zeros : true ≡ fits (n - 8) back = sym (ap₂ (λ x v. fits 0 (bytes (x ∷ v ∷ []))) y z) ∙ ap (λ m. fits m back) (sym none_left) in
         e ∙ sym (and_true (fits n front)) ∙ ap (λ x. fits n front && x) zeros ∙ halves
 

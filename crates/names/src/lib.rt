@@ -27,16 +27,7 @@ pub fn is_good_name(name: Block) -> bool
     ensures { result ≡ good_name name }
 {
     let length = (name.first / FIRST_BYTE_UNIT) as usize;
-    if length == 0 {
-        return false;
-    }
-    if length > LONGEST_NAME {
-        return false;
-    }
-    if name.first == ONE_DOT {
-        return false;
-    }
-    if name.first == TWO_DOTS {
+    if length == 0 || length > LONGEST_NAME || name.first == ONE_DOT || name.first == TWO_DOTS {
         return false;
     }
     // the length is not 0 and no slash, so that it passes as one byte more
@@ -47,18 +38,10 @@ fn words_fit(name: Block, count: usize) -> bool
     ensures { result ≡ fits count (bytes (name.first ∷ name.second ∷ name.third ∷ name.fourth ∷ [])) }
 {
     if count < 8 {
-        if name.third != 0 {
-            return false;
-        }
-        if name.fourth != 0 {
-            return false;
-        }
-        return half_fits(name.first, name.second, count);
+        (name.third, name.fourth) == (0, 0) && half_fits(name.first, name.second, count)
+    } else {
+        half_fits(name.first, name.second, count) && half_fits(name.third, name.fourth, count - 8)
     }
-    if !half_fits(name.first, name.second, count) {
-        return false;
-    }
-    half_fits(name.third, name.fourth, count - 8)
 }
 
 // Whether the first `count` of the eight bytes can be a name's and the others are zeros: all eight are tested at once.
@@ -66,10 +49,7 @@ fn half_fits(first: u32, second: u32, count: usize) -> bool
     ensures { result ≡ fits count (bytes (first ∷ second ∷ [])) }
 {
     let half = first as u64 * WORD_UNIT + second as u64;
-    if differing(half, 0) != tops_of(count) {
-        return false;
-    }
-    differing(half, SLASHES) == TOP_BITS
+    differing(half, 0) == tops_of(count) && differing(half, SLASHES) == TOP_BITS
 }
 
 // The top bit of each of the eight bytes that is not the byte of `other` at its place. No byte of `other` is above 127.
@@ -84,8 +64,9 @@ fn differing(eight: u64, other: u64) -> u64
 fn tops_of(count: usize) -> u64
     ensures { result ≡ number 0 (tops count 8) }
 {
-    if count > 7 {
-        return TOP_BITS;
+    if count < 8 {
+        TOP_BITS - (TOP_BITS >> (8 * count))
+    } else {
+        TOP_BITS
     }
-    TOP_BITS - (TOP_BITS >> (8 * count))
 }
