@@ -1,5 +1,5 @@
 -- Where a walk stopped, and by that the model's own tests: who is in the way, and what root drops. Assumes nothing.
-use mathlib.Core.Path.{◌≡◌, sym, ap, subst, ◌∙◌}
+use mathlib.Core.Path.{◌≡◌, refl, sym, ap, subst, ◌∙◌}
 use mathlib.Core.Bool.{Bool, true, false, ◌&&◌}
 use mathlib.Core.Option.{none, some}
 use mathlib.Core.List.{List}
@@ -18,6 +18,7 @@ use Rattle.rows.specs.Stands.{Stands, Becomes}
 use Rattle.search.specs.declared.Caller.{Caller}
 use Rattle.search.specs.Callers.{Known}
 use Rattle.goals.specs.declared.Place.{Place}
+use Rattle.goals.specs.declared.Stop.{Stop}
 use Rattle.goals.specs.declared.Stop.TheVariants.{Refused, Root, Entry}
 use Rattle.goals.specs.declared.Walk.{Walk}
 use Rattle.goals.specs.Goals.{goal_of, end_at, place_at, PlaceNamed, StopNamed, WalkNamed}
@@ -38,6 +39,15 @@ module _ (w : Walk) where
   pub entry_end : {q : Place} {k : ℕ} → w.stop ≡ Entry q k → (goal_of w).end ≡ some (place_at q)
   unfolding goal_of end_at
   entry_end e = ap end_at e
+
+  pub no_entry_end : ((q : Place) (k : ℕ) → w.stop ≡ Entry q k → ⊥) → (goal_of w).end ≡ none
+  unfolding goal_of end_at
+  no_entry_end n = go w.stop n
+    where
+      go : (s : Stop) → ((q : Place) (k : ℕ) → s ≡ Entry q k → ⊥) → end_at s ≡ none
+      go (Refused k) m = refl
+      go Root m = refl
+      go (Entry q k) m = absurd (m q k refl)
 
   module _ (n : WalkNamed w) {q : Place} {k : ℕ} (e : w.stop ≡ Entry q k) where
     pub end_named : PlaceNamed q

@@ -29,9 +29,8 @@ fn end_of(walk: Walk) -> Option<Place>
     ensures { MatchOption result ((goal_of walk).end ≡ none) (λ place. (PlaceNamed place) × ((goal_of walk).end ≡ some (place_at place))) }
 {
     match walk.stop {
-        Stop::Refused(_) => None,
-        Stop::Root => None,
         Stop::Entry { place, node: _ } => Some(place),
+        _ => None,
     }
 }
 

@@ -11,10 +11,10 @@ use Rattle.plans.proofs.count_of_process.Reads as count_of_process_reads
 use Rattle.plans.proofs.copy_holds.Kinds as copy_holds_kinds
 use Rattle.plans.proofs.copy_holds.Reads as copy_holds_reads
 
-pub lacks_room_determined : OneResult 1 lacks_room_kinds.ps lacks_room_kinds.r lacks_room_reads.Post
+pub lacks_room_determined : OneResult 2 lacks_room_kinds.ps lacks_room_kinds.r lacks_room_reads.Post
 lacks_room_determined κs a x y s t p q = p ∙ sym q
 
-pub add_planned_exit_determined : OneExit 1 add_planned_kinds.ps add_planned_kinds.r add_planned_reads.Post (λ κs s. s.0.now)
+pub add_planned_exit_determined : OneExit 2 add_planned_kinds.ps add_planned_kinds.r add_planned_reads.Post (λ κs s. s.0.now)
 add_planned_exit_determined κs a x y s t p q = becomes_once p q
 
 pub count_of_process_determined : OneResult 1 count_of_process_kinds.ps count_of_process_kinds.r count_of_process_reads.Post

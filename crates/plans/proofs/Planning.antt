@@ -10,8 +10,9 @@ use borrow.Author.Tests.{le-ltb}
 use lib.Dec.{eqb, ltb}
 use Rattle.std.specs.List.{list_any}
 use Rattle.std.specs.Prelude.{Some, None}
-use lib.ListN.{length, get_or, set, take, drop, replicate, length-append, length-take, length-set, length-map, drop_of_length-le}
-use lib.Seq.{take_all, take-suc, take-suc-set, length-take-le}
+use lib.ListN.{length, get_or, set, take, drop, length-append, length-take, length-map, drop_of_length-le}
+use lib.Seq.{take_all, take-suc}
+use Rattle.arrayvec.specs.ArrayVec.{array_vec_len}
 use Rattle.model.specs.Lists.{filled, any, count, put, put_all}
 use Rattle.model.specs.Tables as model_tables
 use Rattle.model.specs.Tables.{Tables, Hold, free_hold, end_role, element_role, same_place, with_holds}
@@ -19,7 +20,7 @@ use Rattle.model.specs.Sound.{same_hold}
 use Rattle.model.specs.Words.{pack_name, unpack_name, pack_hold, unpack_hold, bits, bytes, words, unpack}
 use Rattle.model.specs.Holds.{hold_by, end_wanted, wanted, lacking, no_room, add_holds}
 use Rattle.laws.proofs.Bools.{or_right, neither}
-use Rattle.laws.proofs.Each.{Each, each_head, each_tail, each_at, each_set, each_take, each_replicate}
+use Rattle.laws.proofs.Each.{Each, none as no_row, one, each_append, each_head, each_tail, each_at, each_take}
 use Rattle.laws.proofs.Loops.{rest_at}
 use Rattle.laws.proofs.Members.{each_in, at_in}
 use Rattle.rows.specs.declared.HoldRow.{HoldRow}
@@ -34,8 +35,7 @@ use Rattle.goals.specs.declared.Place.{Place}
 use Rattle.goals.specs.declared.Stop.TheVariants.{Entry}
 use Rattle.goals.specs.declared.Walk.{Walk}
 use Rattle.goals.specs.Goals.{goal_of, place_at, blank, PlaceNamed, WalkNamed}
-use Rattle.plans.specs.declared.Plan.{Plan}
-use Rattle.plans.specs.Plans.{Fine, blank_row, plan_room, Planned, same_rows, planned_holds, Wished, PlaceUsed, StopUsed, WalkUsed, wanted_row, element_holds, PlanFor}
+use Rattle.plans.specs.Plans.{Fine, blank_row, plan_room, Plan, Planned, same_rows, planned_holds, Wished, PlaceUsed, StopUsed, WalkUsed, wanted_row, element_holds, PlanFor}
 use Rattle.plans.proofs.Lacking.{any_append, had_already, had_not, lacking_append}
 use Rattle.holds.proofs.Towards.{Towards, begin, go_on, arrive}
 
@@ -60,24 +60,18 @@ pub blank_fine : Fine blank_row
 unfolding Named name_of hold_of place_of pack_hold unpack_hold free_hold pack_name unpack_name words bytes bits filled
 blank_fine = record { good = record { words = refl; fits = refl }; name = refl; role = omega arith }
 
-pub fine_rows : (p : Plan) → Planned p → Each Fine (take p.count p.rows)
-fine_rows p ok = each_take p.count ok.fine
-
-module _ (p : Plan) (ok : Planned p) where
-  rows_long : length (take p.count p.rows) ≡ p.count
-  rows_long = length-take-le p.count p.rows (omega (arith, ok.few, ok.room))
-
-  pub planned_long : length (planned_holds p) ≡ p.count
+module _ (p : Plan) where
+  planned_long : length (planned_holds p) ≡ array_vec_len p
   unfolding planned_holds
-  planned_long = length-map (take p.count p.rows) hold_of ∙ rows_long
+  planned_long = length-map p.items hold_of
 
-  pub room_is : (t : Tables) {n : ℕ} → n ≡ count free_hold t.holds → ltb n p.count ≡ no_room t (planned_holds p)
+  pub room_is : (t : Tables) {n : ℕ} → n ≡ count free_hold t.holds → ltb n (array_vec_len p) ≡ no_room t (planned_holds p)
   unfolding no_room
-  room_is t e = ap (λ k. ltb k p.count) e ∙ ap (ltb (count free_hold t.holds)) (sym planned_long)
+  room_is t e = ap (λ k. ltb k (array_vec_len p)) e ∙ ap (ltb (count free_hold t.holds)) (sym planned_long)
 
   -- where nothing is planned nothing is lacking
-  pub room_for_none : (t : Tables) → p.count ≡ 0 → false ≡ no_room t (planned_holds p)
-  room_for_none t z = sym (le-ltb (count free_hold t.holds) p.count (omega arith)) ∙ room_is t refl
+  pub room_for_none : (t : Tables) → array_vec_len p ≡ 0 → false ≡ no_room t (planned_holds p)
+  room_for_none t z = sym (le-ltb (count free_hold t.holds) (array_vec_len p) (omega arith)) ∙ room_is t refl
 
 -- ONE HOLD WISHED FOR
 
@@ -102,30 +96,29 @@ module _ (have : List Hold) (p : Plan) (ok : Planned p) (h : HoldRow) where
         (any_append (same_hold (hold_of h)) (planned_holds p) have
         ∙ ap (λ x. x || any (same_hold (hold_of h)) have) (sym f ∙ u))
 
-    pub planned_new : c ≡ false → p.count < plan_room → Fine h → Wished have p h (record { count = p.count + 1; rows = set p.rows p.count h })
+    pub planned_new : c ≡ false → array_vec_len p < plan_room → Fine h → {q : Plan} → q.items ≡ p.items ++ (h ∷ []) → Wished have p h q
     unfolding planned_holds lacking
-    planned_new u room fine =
+    planned_new u room fine e' =
         let none : any (same_hold (hold_of h)) (planned_holds p ++ have) ≡ false
         = any_append (same_hold (hold_of h)) (planned_holds p) have ∙ neither (sym f ∙ u) (sym e ∙ t) in
-        let rows : take (p.count + 1) (set p.rows p.count h) ≡ take p.count p.rows ++ (h ∷ [])
-        = ap (λ n. take n (set p.rows p.count h)) (add-one p.count) ∙ take-suc-set p.rows p.count h (omega (arith, ok.room)) in
+        let long : length (p.items ++ (h ∷ [])) ≡ length p.items + 1 = length-append p.items (h ∷ []) in
         record {
-          is = ap (map hold_of) rows ∙ map-append hold_of (take p.count p.rows) (h ∷ [])
+          is = ap (map hold_of) e' ∙ map-append hold_of p.items (h ∷ [])
               ∙ ap (λ l. planned_holds p ++ l) (sym (had_not (planned_holds p ++ have) (hold_of h) [] none));
-          planned = record { few = omega arith; room = length-set p.rows p.count h ∙ ok.room; fine = each_set p.count ok.fine fine };
-          more = omega arith;
+          planned = record { few = omega (arith, ap length e', long); fine = subst (Each Fine) (sym e') (each_append ok.fine (one fine no_row)) };
+          more = omega (arith, ap length e', long);
         }
 
 -- A PLAN GROWS BY ONE HOLD
 
 module _ (have : List Hold) where
-  pub plan_none : {none : HoldRow} → none ≡ blank_row → PlanFor have [] (record { count = 0; rows = replicate plan_room none })
+  pub plan_none : {q : Plan} → q.items ≡ [] → PlanFor have [] q
   unfolding planned_holds lacking
-  plan_none {none} e =
+  plan_none e =
       record {
-        is = refl;
-        planned = record { few = omega arith; room = refl; fine = each_replicate plan_room none (subst Fine (sym e) blank_fine) };
-        few = omega arith;
+        is = ap (map hold_of) e;
+        planned = record { few = omega (arith, ap length e); fine = subst (Each Fine) (sym e) no_row };
+        few = omega (arith, ap length e);
       }
 
   pub plan_on : (wants : List Hold) {p q : Plan} {h : HoldRow} → PlanFor have wants p → Wished have p h q → PlanFor have (wants ++ (hold_of h ∷ [])) q
@@ -156,7 +149,7 @@ elements_few p n elements =
     omega (arith, length-map (map place_at (take n elements)) (hold_by p element_role), length-map (take n elements) place_at, taken_few n elements)
 
 module _ (p : ℕ) (elements : List Place) (have : List Hold) where
-  pub gather_begin : {none : HoldRow} → none ≡ blank_row → PlanFor have (element_holds p 0 elements) (record { count = 0; rows = replicate plan_room none })
+  pub gather_begin : {q : Plan} → q.items ≡ [] → PlanFor have (element_holds p 0 elements) q
   unfolding element_holds
   gather_begin e = plan_none have e
 

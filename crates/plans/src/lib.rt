@@ -1,6 +1,7 @@
 #![tactic(auto)]
 // Holds taken over the lent words: planned before anything is written, and fork's copies. Each is what the model's definition of that name gives.
 ghost use Rattle.std.specs.Prelude.{◌≢◌, ◌≡◌, ◌≤◌, ◌<◌};
+ghost use Rattle.arrayvec.specs.ArrayVec.{array_vec_len};
 ghost use Rattle.model.specs.Lists.{any, count, put};
 ghost use Rattle.model.specs.Tables.{hold_rows, free_hold, with_holds};
 ghost use Rattle.model.specs.Sound.{same_hold};
@@ -12,6 +13,7 @@ ghost use Rattle.rows.specs.Stands.{Stands, Becomes};
 ghost use Rattle.goals.specs.Goals.{goal_of, WalkNamed};
 ghost use Rattle.plans.specs.Plans.{Fine, plan_room, Planned, same_rows, planned_holds, wanted_row, element_holds, Wished, WalkUsed, PlanFor, copied_at};
 
+use arrayvec::ArrayVec;
 use edits::set_hold;
 use goals::{Place, Stop, Walk};
 use rows::{
@@ -22,12 +24,8 @@ use search::{free_hold_row, free_hold_rows, has_hold};
 // How many holds one call can lack: those on eight elements and on the end.
 pub const PLAN_ROOM: usize = 9;
 
-// Holds to be taken, in their order. Unused room is blank.
-#[derive(Clone, Copy)]
-pub struct Plan {
-    pub count: usize,
-    pub rows: [HoldRow; PLAN_ROOM],
-}
+// Holds to be taken, in their order.
+pub type Plan = ArrayVec<HoldRow, PLAN_ROOM>;
 
 // Every row of a hold is built here.
 fn hold_row(place: Place, process: u16, role: u8) -> HoldRow
@@ -48,28 +46,20 @@ fn same_holds(a: HoldRow, b: HoldRow) -> bool
     a.process == b.process && a.role == b.role && a.directory == b.directory && a.name == b.name
 }
 
-fn is_planned(plan: Plan, hold: HoldRow) -> bool
-    requires { (Planned plan) × (Named hold.name) }
-    ensures { result ≡ any (same_hold (hold_of hold)) (planned_holds plan) }
+fn is_planned(plan: &Plan, hold: HoldRow) -> bool
+    requires { (Planned plan.now) × (Named hold.name) }
+    ensures { result ≡ any (same_hold (hold_of hold)) (planned_holds plan.now) }
 {
-    plan.rows[..plan.count]
-        .iter()
-        .any(|row| same_holds(hold, *row))
+    plan.as_slice().iter().any(|row| same_holds(hold, *row))
 }
 
-// The plan with one hold more, where it is lacking.
-fn wish(words: &[u32], plan: Plan, hold: HoldRow) -> Plan
-    requires { (Stands words.now) × ((Planned plan) × ((plan.count < plan_room) × (Fine hold))) }
-    ensures { Wished (unpack words.now).holds plan hold result }
+// Plans one hold more, where it is lacking.
+fn wish(words: &[u32], plan: &mut Plan, hold: HoldRow)
+    requires { (Stands words.now) × ((Planned plan.old) × ((array_vec_len plan.old < plan_room) × (Fine hold))) }
+    ensures { Wished (unpack words.now).holds plan.old hold plan.new }
 {
-    if has_hold(words, hold) || is_planned(plan, hold) {
-        return plan;
-    }
-    let mut rows = plan.rows;
-    rows[plan.count] = hold;
-    Plan {
-        count: plan.count + 1,
-        rows,
+    if !has_hold(words, hold) && !is_planned(plan, hold) {
+        plan.push(hold);
     }
 }
 
@@ -77,16 +67,9 @@ fn plan_elements(words: &[u32], process: u16, walk: Walk) -> Plan
     requires { (Stands words.now) × ((WalkNamed walk) × (WalkUsed walk)) }
     ensures { PlanFor (unpack words.now).holds (element_holds process walk.count walk.elements) result }
 {
-    let nowhere = Place {
-        directory: 0,
-        name: Block::default(),
-    };
-    let mut plan = Plan {
-        count: 0,
-        rows: [hold_row(nowhere, 0, 0); PLAN_ROOM],
-    };
+    let mut plan = Plan::new();
     for place in &walk.elements[..walk.count] {
-        plan = wish(words, plan, hold_row(*place, process, ELEMENT));
+        wish(words, &mut plan, hold_row(*place, process, ELEMENT));
     }
     plan
 }
@@ -96,19 +79,18 @@ pub fn plan_holds(words: &[u32], process: u16, walk: Walk) -> Plan
     requires { (Stands words.now) × ((WalkNamed walk) × (WalkUsed walk)) }
     ensures { PlanFor (unpack words.now).holds (wanted process (goal_of walk)) result }
 {
-    let plan = plan_elements(words, process, walk);
-    match walk.stop {
-        Stop::Refused(_) => plan,
-        Stop::Root => plan,
-        Stop::Entry { place, node: _ } => wish(words, plan, hold_row(place, process, END)),
+    let mut plan = plan_elements(words, process, walk);
+    if let Stop::Entry { place, node: _ } = walk.stop {
+        wish(words, &mut plan, hold_row(place, process, END));
     }
+    plan
 }
 
-pub fn lacks_room(words: &[u32], plan: Plan) -> bool
-    requires { (Stands words.now) × (Planned plan) }
-    ensures { result ≡ no_room (unpack words.now) (planned_holds plan) }
+pub fn lacks_room(words: &[u32], plan: &Plan) -> bool
+    requires { (Stands words.now) × (Planned plan.now) }
+    ensures { result ≡ no_room (unpack words.now) (planned_holds plan.now) }
 {
-    plan.count > 0 && free_hold_rows(words) < plan.count
+    !plan.is_empty() && free_hold_rows(words) < plan.len()
 }
 
 fn add_hold(words: &mut [u32], hold: HoldRow)
@@ -120,11 +102,11 @@ fn add_hold(words: &mut [u32], hold: HoldRow)
     }
 }
 
-pub fn add_planned(words: &mut [u32], plan: Plan)
-    requires { (Stands words.old) × (Planned plan) }
-    ensures { Becomes words.new (with_holds (unpack words.old) (add_holds (planned_holds plan) (unpack words.old).holds)) }
+pub fn add_planned(words: &mut [u32], plan: &Plan)
+    requires { (Stands words.old) × (Planned plan.now) }
+    ensures { Becomes words.new (with_holds (unpack words.old) (add_holds (planned_holds plan.now) (unpack words.old).holds)) }
 {
-    for row in &plan.rows[..plan.count] {
+    for row in plan.as_slice() {
         add_hold(words, *row);
     }
 }

@@ -90,7 +90,7 @@ pub struct EntryRow {
 }
 
 // A hold as it is written.
-#[derive(Clone, Copy)]
+#[derive(Clone, Copy, Default)]
 pub struct HoldRow {
     pub directory: u16,
     pub process: u16,

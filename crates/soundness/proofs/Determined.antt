@@ -10,5 +10,5 @@ pub sound_determined : OneResult 1 sound_kinds.ps sound_kinds.r sound_reads.Post
 sound_determined κs a x y s t p q = p ∙ sym q
 
 -- the verdict; the links of free rows are left open
-pub sound_and_index_determined : OneResult 3 sound_and_index_kinds.ps sound_and_index_kinds.r sound_and_index_reads.Post
+pub sound_and_index_determined : OneResult 2 sound_and_index_kinds.ps sound_and_index_kinds.r sound_and_index_reads.Post
 sound_and_index_determined κs a x y s t p q = p.0 ∙ sym q.0

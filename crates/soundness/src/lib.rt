@@ -1,17 +1,16 @@
 #![tactic(auto)]
 // Whether lent words are sound tables. Document 01, 'The lent tables'.
-ghost use Rattle.std.specs.Prelude.{true, ◌&&◌, ◌≡◌, replicate};
-ghost use Rattle.model.specs.Tables.{entry_rows};
+ghost use Rattle.std.specs.Prelude.{true, ◌&&◌, ◌≡◌};
 ghost use Rattle.model.specs.Sound.{sound};
 ghost use Rattle.model.specs.Words.{unpack};
 ghost use Rattle.rows.specs.Stands.{Stands};
-ghost use Rattle.index.specs.Indexed.{entry_buckets, Indexed};
+ghost use Rattle.index.specs.Buckets.{no_links};
+ghost use Rattle.index.specs.Indexed.{Indexed};
 ghost use Rattle.soundness.specs.Groups.{tree_rules, hold_rules};
 
 use hold_rules::{ends_agree, holds_apart, holds_placed, used_hold_rows};
-use index::{BUCKETS, index_entries};
-use process_index::{PROCESS_BUCKETS, index_processes};
-use rows::{ENTRY_ROWS, PROCESS_ROWS};
+use index::{Index, index_entries};
+use process_index::{ProcessIndex, index_processes};
 use shape::is_shaped;
 use tree_rules::tree_right;
 
@@ -19,21 +18,16 @@ use tree_rules::tree_right;
 pub fn sound(words: &[u32]) -> bool
     ensures { result ≡ sound words.now }
 {
-    let mut heads = [0u16; BUCKETS];
-    let mut next = [0u16; ENTRY_ROWS];
-    sound_and_index(words, &mut heads, &mut next)
+    let mut index = Index::new();
+    sound_and_index(words, &mut index)
 }
 
 // The same, and where the words are sound the index of their entries, for the lookups of the same call.
-pub fn sound_and_index(
-    words: &[u32],
-    heads: &mut [u16; BUCKETS],
-    next: &mut [u16; ENTRY_ROWS],
-) -> bool
-    requires { (heads.old ≡ replicate entry_buckets 0) × (next.old ≡ replicate entry_rows 0) }
-    ensures { (result ≡ sound words.now) × (result ≡ true → Indexed words.now heads.new next.new) }
+pub fn sound_and_index(words: &[u32], index: &mut Index) -> bool
+    requires { index.old ≡ no_links }
+    ensures { (result ≡ sound words.now) × (result ≡ true → Indexed words.now index.new) }
 {
-    if !is_shaped(words) || !index_entries(words, heads, next) {
+    if !is_shaped(words) || !index_entries(words, index) {
         return false;
     }
     keeps_rules(words)
@@ -52,13 +46,10 @@ fn keeps_hold_rules(words: &[u32]) -> bool
     requires { Stands words.now }
     ensures { result ≡ hold_rules (unpack words.now) }
 {
-    let mut heads = [0u16; PROCESS_BUCKETS];
-    let mut next = [0u16; PROCESS_ROWS];
-    if !index_processes(words, &mut heads, &mut next) {
+    let mut index = ProcessIndex::new();
+    if !index_processes(words, &mut index) {
         return false;
     }
     let rows = used_hold_rows(words);
-    holds_placed(words, &heads, &next, rows)
-        && holds_apart(words, rows)
-        && ends_agree(words, &heads, &next, rows)
+    holds_placed(words, &index, rows) && holds_apart(words, rows) && ends_agree(words, &index, rows)
 }

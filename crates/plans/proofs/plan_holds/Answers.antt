@@ -3,7 +3,7 @@ use native.Mathlib.Omega.{arith}
 use Rattle.model.specs.Tables.{end_role}
 use Rattle.model.specs.Words.{unpack}
 use Rattle.plans.proofs.Planning.{elements_few, end_used, plan_with_end, plan_without_end, wanted_fine}
-use Rattle.holds.proofs.Ways.{end_named, entry_end, refused_end, root_end}
+use Rattle.holds.proofs.Ways.{end_named, entry_end, no_entry_end}
 use Rattle.plans.proofs.plan_holds.Goals as goal
 
 pub wish-requires : goal.wish-requires
@@ -14,15 +14,10 @@ wish-requires c =
     (end_used walk c.requires.1.1 c.in-Entry.is) in
     (c.requires.0, (c.plan_elements-plan.ensures.planned, (omega (arith, c.plan_elements-plan.ensures.few, few, named.few), fine)))
 
-pub returns-in-Refused : goal.returns-in-Refused
-returns-in-Refused c =
+pub returns-in_default : goal.returns-in_default
+returns-in_default c =
     let walk = c.args.walk in
-    plan_without_end (unpack c.args.words.now).holds c.args.process walk c.plan_elements-plan.ensures (refused_end walk c.in-Refused.is)
-
-pub returns-in-Root : goal.returns-in-Root
-returns-in-Root c =
-    let walk = c.args.walk in
-    plan_without_end (unpack c.args.words.now).holds c.args.process walk c.plan_elements-plan.ensures (root_end walk c.in-Root.is)
+    plan_without_end (unpack c.args.words.now).holds c.args.process walk c.plan_elements-plan.ensures (no_entry_end walk c.in_default.not-Entry)
 
 pub returns-in-Entry : goal.returns-in-Entry
 returns-in-Entry c =
