@@ -14,6 +14,7 @@ pub struct Place {
 }
 
 // How a walk ended: refused with 7, 8 or 9; at node 1 by `/`; or at an end entry, with the node there, 0 for an absence.
+// stays: what may not change: node_at_end, node_of and is_absent here, and the passes over holds, promise their answers on a refused walk too.
 #[derive(Clone, Copy)]
 pub enum Stop {
     Refused(u8),
@@ -22,6 +23,7 @@ pub enum Stop {
 }
 
 // A walk's end, and its elements: the places of the links that it followed, in the order met. Unused room is blank.
+// stays: no plainer: an ArrayVec is not Copy, and calls hand one walk to several functions by value.
 #[derive(Clone, Copy)]
 pub struct Walk {
     pub stop: Stop,

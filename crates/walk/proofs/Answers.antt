@@ -7,7 +7,7 @@ use mathlib.Core.List.{List, [], ◌∷◌, append-nil}
 use Prim.Native.Nat.{ℕ, zero, suc, ◌+◌}
 use native.Mathlib.Omega.{arith}
 use borrow.Author.Tests.{ne_eqb}
-use Rattle.std.specs.Prelude.{Some, None, Ok, Err}
+use Rattle.std.specs.Prelude.{Option, Some, None, Ok, Err}
 use Rattle.model.specs.Refusals.{Outcome, refused}
 use Rattle.model.specs.Paths.{Name, names}
 use Rattle.model.specs.Tables as model_tables
@@ -64,7 +64,7 @@ module _ (entries : List model_tables.Entry) (nodes : List Node) (walkable : Wal
 
 -- STOPPING
 
-module _ (row : model_tables.Place → ℕ) (t : Trail) where
+module _ (row : model_tables.Place → Option ℕ) (t : Trail) where
   same_count : t.count ≡ t.count + 0
   same_count = omega arith
 

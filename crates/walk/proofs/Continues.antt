@@ -8,7 +8,7 @@ use native.Mathlib.Numerals.{add-one}
 use lib.Dec.{eqb}
 use lib.ListN.{length, set, drop, replicate, length-replicate}
 use lib.Seq.{sets, sets-eq}
-use Rattle.std.specs.Prelude.{Result, Ok, Err}
+use Rattle.std.specs.Prelude.{Option, Result, Ok, Err}
 use Rattle.model.specs.Refusals.{Outcome, refused, granted, ◌>>=◌}
 use Rattle.model.specs.Paths.{Name}
 use Rattle.model.specs.Tables.{Place, Entry, Node, a_directory, node_at, is_directory}
@@ -24,7 +24,7 @@ unfolding prefixed past
 prefixed_refused [] n = refl
 prefixed_refused (q ∷ es) n = ap (past q) (prefixed_refused es n)
 
-module _ (row : Place → ℕ) where
+module _ (row : Place → Option ℕ) where
   -- ONE LINK MORE
 
   trail_after_one : (t : Trail) (q : Place) (begin n : ℕ) (es : List Place) → trail_after row (through t (row q) begin) n es ≡ trail_after row t n (q ∷ es)
@@ -86,7 +86,7 @@ module _ (entries : List Entry) (nodes : List Node) (n : ℕ) where
 
 -- HOW A LEG ENDED
 
-module _ (row : Place → ℕ) (entries : List Entry) (nodes : List Node) (follow_last : Bool) (rest : List Name) (t : Trail) where
+module _ (row : Place → Option ℕ) (entries : List Entry) (nodes : List Node) (follow_last : Bool) (rest : List Name) (t : Trail) where
   -- the links that were left
   abbrev k : ℕ
   k = 8 - t.count

@@ -1,25 +1,13 @@
 -- The place of a row as the code reads it, and the places of many. Assumes nothing.
-use mathlib.Core.Path.{◌≡◌, refl, ap}
+use mathlib.Core.Path.{◌≡◌}
 use mathlib.Core.List.{List, map}
-use Prim.Native.Nat.{ℕ, zero, suc, ◌+◌, ◌-◌}
+use Prim.Native.Nat.{ℕ, zero, suc, ◌+◌}
 use native.Mathlib.Omega.{arith}
 use native.Mathlib.Numerals.{add-one}
 use denote.Param.Members.{Mut, Called}
 use lib.ListN.{length, drop, drop_of_length-le}
 use lib.Seq.{drop-cons}
 use Rattle.std.specs.Array.{MapsFrom}
-use Rattle.rows.specs.Stands.{entry_row}
-use Rattle.goals.specs.Goals.{place_row, blank}
-use Rattle.walk.specs.Trails.{place_in}
-
-pub no_place : (w : List ℕ) (found : ℕ) → found ≡ 0 → blank ≡ place_in w found
-unfolding place_in
-no_place w found z = rw z
-
-pub place_read : (w : List ℕ) (found : ℕ) → (found ≡ 0 → ⊥) → place_row (entry_row w (found - 1)).place ≡ place_in w found
-unfolding place_in
-place_read w zero n = absurd (n refl)
-place_read w (suc row) n = let here : suc row - 1 ≡ row = omega arith in ap (λ r. place_row (entry_row w r).place) here
 
 -- what an array's `map` gives, where the closure computes h and changes nothing
 module _ {F A B : Type 0} (g : Mut F (A × Unit {0}) B) (h : A → B) (f : F)

@@ -9,7 +9,7 @@ use native.Mathlib.Omega.{arith}
 use lib.Dec.{eqb, ltb}
 use lib.ListN.{length, get_or, take, drop}
 use borrow.Author.Tests.{eqb-true, eqb-false, ltb-true, ltb-false, le-ltb, lt-ltb}
-use Rattle.std.specs.Prelude.{Some, None, Result, Ok, Err}
+use Rattle.std.specs.Prelude.{Option, Some, None, Result, Ok, Err}
 use Rattle.model.specs.Lists.{filled}
 use Rattle.model.specs.Refusals.{Outcome, ◌>>=◌}
 use Rattle.model.specs.Paths.{Name, longest_name, longest_target, slash, names, absolute, valid_name, valid_names}
@@ -31,16 +31,16 @@ use Rattle.rows.proofs.Blocks.{name_back, block_named}
 use Rattle.rows.proofs.Fields.{node_in_row}
 use Rattle.rows.proofs.Parts.{nodes_full}
 use Rattle.goals.specs.Goals.{place_row}
-use Rattle.paths.specs.declared.Next.TheVariants.{Name as NamedNext}
 use Rattle.paths.specs.Split.{next}
 use Rattle.paths.proofs.Parts.{parts_split}
 use Rattle.paths.proofs.Splits.{SplitsValid, next_splits, next_splits_valid}
-use Rattle.index.specs.Indexed.{row_found, node_in}
+use Rattle.index.specs.Buckets.{counted}
+use Rattle.index.specs.Indexed.{Index, row_found, node_in}
 use Rattle.index.proofs.Entries.{block_back, node_found_there}
 use Rattle.walk.specs.declared.Stretch.{Stretch}
 use Rattle.walk.specs.declared.Trail.{Trail}
-use Rattle.walk.specs.Trails.{continued, through, followed, only_directory, walk_within, walked_from, link_walked, Ready}
-use Rattle.walk.proofs.Found.{Walkable, GoodTarget, good_target, sound_walkable}
+use Rattle.walk.specs.Trails.{continued, through, followed, only_directory, walk_within, walked_from, link_walked, row_of, row_there, Ready}
+use Rattle.walk.proofs.Found.{Walkable, GoodTarget, good_target, numbered, sound_walkable}
 use Rattle.walk.proofs.Legs.{jump_within, onward, walk_legs}
 use Rattle.walk.proofs.Ends.{Ends, walk_ends}
 use Rattle.walk.proofs.Continues.{continued_link, refused_leg, stopped_leg, next_leg}
@@ -64,7 +64,7 @@ pub record NextName (path : List ℕ) (at start size : ℕ) : Type 0 where
   pub named : Named (block_of (take size (drop start path)))
 
 pub next_name_met : (path : List ℕ) (at start size : ℕ) → ((i : ℕ) → get_or path i 0 < 256) → valid_names (drop at path) ≡ true →
-    next path at ≡ NamedNext start size → NextName path at start size
+    next path at ≡ Some (record { start = start; length = size }) → NextName path at start size
 next_name_met path at start size bytes v e =
     let s = next_splits path at start size e in
     let u = next_splits_valid path at start size v e in
@@ -105,20 +105,30 @@ module _ (path : List ℕ) (at start size : ℕ) (n : NextName path at start siz
 -- ONE NAME IS RESOLVED
 
 -- the directory is a node
-pub in_no_directory : {w heads next : List ℕ} {t : Trail} → Ready w heads next t → t.node ≢ 0
+pub in_no_directory : {w : List ℕ} {index : Index} {t : Trail} → Ready w index t → t.node ≢ 0
 unfolding is_directory node_at
 in_no_directory {w} ready z = let no : is_directory (unpack w).nodes 0 ≡ true = rw z at ready.there in true≢false (sym no)
 
 -- the node of the row that was found is the one that the name leads to
-pub node_met : {w heads next : List ℕ} {t : Trail} → Ready w heads next t → (b : Block) {found node : ℕ} → found ≡ row_found w (place_of t.node b) →
+pub node_met : {w : List ℕ} {index : Index} {t : Trail} → Ready w index t → (b : Block) {found node : ℕ} → found ≡ row_found w (place_of t.node b) →
     node ≡ node_in w found → node ≡ lookup (unpack w).entries (place_of t.node b)
 unfolding place_of
 node_met {w} {t = t} ready b e f = f ∙ rw e (node_found_there w (place_of t.node b) (in_no_directory ready) ready.indexed.distinct)
 
+-- where no entry is, no link is
+pub nothing_found : (w : List ℕ) (node : ℕ) {found : Option ℕ} → node ≡ node_in w (counted found) → found ≡ None → (node_at (unpack w).nodes node).kind ≢ a_link
+unfolding node_in
+nothing_found w node e f k = numbered (unpack w).nodes node (λ z. omega (arith, k, z)) (rw f at e)
+
+row_told : (w : List ℕ) (q : model_tables.Place) {found : Option ℕ} → counted found ≡ row_found w q → found ≡ row_there w q
+unfolding row_there row_of
+row_told w q {found = None} e = rw (← e)
+row_told w q {found = Some row} e = rw (← e)
+
 -- a link followed alone, by the row of its entry and by its place
 link_alone : (w : List ℕ) (t : Trail) (b : Block) (target : List ℕ) →
-    link_walked w t (row_found w (place_of t.node b)) target
-    ≡ continued (row_found w) t (follow (jump_within (unpack w).entries (unpack w).nodes true (8 - t.count)) (place_of t.node b) target []).outcome
+    link_walked w t (row_there w (place_of t.node b)) target
+    ≡ continued (row_there w) t (follow (jump_within (unpack w).entries (unpack w).nodes true (8 - t.count)) (place_of t.node b) target []).outcome
 unfolding link_walked walked_from continued place_of
 link_alone w t b target = go (ltb t.count 8) refl
   where
@@ -131,27 +141,27 @@ link_alone w t b target = go (ltb t.count 8) refl
     inside : Outcome Goal
     inside = walk_within (unpack w).entries (unpack w).nodes true (8 - (t.count + 1)) (start t.node target) (names target)
 
-    go : (free : Bool) → ltb t.count 8 ≡ free → link_walked w t (row_found w place) target ≡ continued (row_found w) t alone
+    go : (free : Bool) → ltb t.count 8 ≡ free → link_walked w t (row_there w place) target ≡ continued (row_there w) t alone
     go true e =
         let few = ltb-true t.count 8 e in
-        simp (e, link_walked) (continued_link (row_found w) t place (start t.node target) inside
-        ∙ ap (continued (row_found w) t) (one_link (unpack w).entries (unpack w).nodes (8 - t.count) (8 - (t.count + 1)) place target (omega arith)))
+        simp (e, link_walked) (continued_link (row_there w) t place (start t.node target) inside
+        ∙ ap (continued (row_there w) t) (one_link (unpack w).entries (unpack w).nodes (8 - t.count) (8 - (t.count + 1)) place target (omega arith)))
     go false e =
         let full = ltb-false t.count 8 e in
-        simp (e, link_walked) (ap (continued (row_found w) t) (sym (ninth_link (unpack w).entries (unpack w).nodes (8 - t.count) place target (omega arith))))
+        simp (e, link_walked) (ap (continued (row_there w) t) (sym (ninth_link (unpack w).entries (unpack w).nodes (8 - t.count) place target (omega arith))))
 
 module _ (w : List ℕ) (walkable : Walkable (unpack w).entries (unpack w).nodes) (t : Trail) (b : Block) (node : ℕ)
     (there : node ≡ lookup (unpack w).entries (place_of t.node b)) (follow_last : Bool) where
   abbrev place : model_tables.Place
   place = place_of t.node b
 
-  pub resolves_link : {found : ℕ} {r : Result Stretch ℕ} → found ≡ row_found w place → follow_last ≡ true → (node_at (unpack w).nodes node).kind ≡ a_link →
+  pub resolves_link : (found : Option ℕ) {r : Result Stretch ℕ} → counted found ≡ row_found w place → follow_last ≡ true → (node_at (unpack w).nodes node).kind ≡ a_link →
       r ≡ link_walked w t found (node_at (unpack w).nodes node).target → r ≡ walked_from w follow_last t (name_of b ∷ [])
   unfolding walked_from place_of
-  resolves_link same f kind e =
+  resolves_link found same f kind e =
       let link_there = ap (λ (n : ℕ). (node_at (unpack w).nodes n).kind) (sym there) ∙ kind in
-      e ∙ rw (same, there) (link_alone w t b (node_at (unpack w).nodes (lookup (unpack w).entries place)).target)
-      ∙ ap (continued (row_found w) t) (sym (follows_link (unpack w).entries (unpack w).nodes walkable follow_last (8 - t.count) place f link_there))
+      e ∙ rw (row_told w place same, there) (link_alone w t b (node_at (unpack w).nodes (lookup (unpack w).entries place)).target)
+      ∙ ap (continued (row_there w) t) (sym (follows_link (unpack w).entries (unpack w).nodes walkable follow_last (8 - t.count) place f link_there))
 
   pub stops_at_entry : Named b → ((node_at (unpack w).nodes node).kind ≢ a_link) ⊎ (follow_last ≡ false) →
       Ok (record { end = Some (record { directory = t.node; name = b }); trail = record { node = node; count = t.count; rows = t.rows } })
@@ -162,13 +172,13 @@ module _ (w : List ℕ) (walkable : Walkable (unpack w).entries (unpack w).nodes
       let no_link : ((node_at (unpack w).nodes (lookup (unpack w).entries place)).kind ≢ a_link) ⊎ (follow_last ≡ false) = rw there at c in
       let alone = stops_there (unpack w).entries (unpack w).nodes walkable follow_last (8 - t.count) place no_link in
       (λ i. Ok (record { end = Some (same i); trail = record { node = there i; count = t.count; rows = t.rows } }))
-      ∙ stopped_at (row_found w) t place (lookup (unpack w).entries place) ∙ ap (continued (row_found w) t) (sym alone)
+      ∙ stopped_at (row_there w) t place (lookup (unpack w).entries place) ∙ ap (continued (row_there w) t) (sym alone)
 
 -- NAMES ONE AFTER THE OTHER
 
 -- Where the loop over names stands: what is left of the path, from the trail, comes to what the whole of it comes to.
-pub record Walking (w heads next path : List ℕ) (follow_last : Bool) (from : Trail) (at : ℕ) (trail : Trail) : Type 0 where
-  pub ready : Ready w heads next trail
+pub record Walking (w : List ℕ) (index : Index) (path : List ℕ) (follow_last : Bool) (from : Trail) (at : ℕ) (trail : Trail) : Type 0 where
+  pub ready : Ready w index trail
   pub valid : valid_names (drop at path) ≡ true
   pub more : from.count ≤ trail.count
   pub same : walked_from w follow_last trail (names (drop at path)) ≡ walked_from w follow_last from (names path)
@@ -189,13 +199,13 @@ two_legs : (w : List ℕ) → Walkable (unpack w).entries (unpack w).nodes → (
 two_legs w walkable follow_last k d n [] more e = absurd (more refl)
 two_legs w walkable follow_last k d n (m ∷ rest) more e = walk_legs (unpack w).entries (unpack w).nodes walkable follow_last k d (n ∷ []) m rest e
 
-module _ {w heads next path : List ℕ} {follow_last : Bool} {from : Trail} {at : ℕ} {trail : Trail} (walking : Walking w heads next path follow_last from at trail) where
+module _ {w : List ℕ} {index : Index} {path : List ℕ} {follow_last : Bool} {from : Trail} {at : ℕ} {trail : Trail} (walking : Walking w index path follow_last from at trail) where
   -- no name is left
   pub stops_by_slash : names (drop at path) ≡ [] →
       Ok (record { end = None; trail = trail }) ≡ walked_from w follow_last from (names path)
   unfolding walked_from
   stops_by_slash none_left =
-      stopped_by_slash (row_found w) trail (unpack w).entries (unpack w).nodes follow_last (8 - trail.count) (names (drop at path)) none_left
+      stopped_by_slash (row_there w) trail (unpack w).entries (unpack w).nodes follow_last (8 - trail.count) (names (drop at path)) none_left
       ∙ walking.same
 
   module _ {start size : ℕ} {met : Result Stretch ℕ} (m : Met w path follow_last at trail start size met) where
@@ -221,7 +231,7 @@ module _ {w heads next path : List ℕ} {follow_last : Bool} {from : Trail} {at 
       walkable : Walkable (unpack w).entries (unpack w).nodes
       walkable = sound_walkable w walking.ready.sound
 
-      first_leg : met ≡ continued (row_found w) trail First
+      first_leg : met ≡ continued (row_there w) trail First
       unfolding followed walked_from
       first_leg = resolved end
 
@@ -230,26 +240,26 @@ module _ {w heads next path : List ℕ} {follow_last : Bool} {from : Trail} {at 
           walk_ends (unpack w).entries (unpack w).nodes walkable true (8 - trail.count) trail.node (name_of m.block ∷ [])
           (λ z. let y : ◌≡◌ {A = ℕ} 0 1 = cc in absurd (omega arith))
 
-      both : continued (row_found w) trail (First >>= onward (unpack w).entries (unpack w).nodes follow_last (8 - trail.count) others)
+      both : continued (row_there w) trail (First >>= onward (unpack w).entries (unpack w).nodes follow_last (8 - trail.count) others)
           ≡ walked_from w follow_last from (names path)
       unfolding walked_from
       both =
           let more = more_names path at start size m.name m.block m.made (eqb-false (start + size) (length path) end) in
           let legs = two_legs w walkable follow_last (8 - trail.count) trail.node (name_of m.block) others more walking.ready.there in
-          ap (continued (row_found w) trail) (sym legs) ∙ ap (walked_from w follow_last trail) (sym (names_from path at start size m.name m.block m.made))
+          ap (continued (row_there w) trail) (sym legs) ∙ ap (walked_from w follow_last trail) (sym (names_from path at start size m.name m.block m.made))
           ∙ walking.same
 
       refused_first : {n : ℕ} → Err n ≡ met → Err n ≡ walked_from w follow_last from (names path)
-      refused_first e = refused_leg (row_found w) (unpack w).entries (unpack w).nodes follow_last others trail First (e ∙ first_leg) ∙ both
+      refused_first e = refused_leg (row_there w) (unpack w).entries (unpack w).nodes follow_last others trail First (e ∙ first_leg) ∙ both
 
       stopped_first : {r : Stretch} {n : ℕ} → Ok r ≡ met → only_directory (unpack w).nodes r.trail.node ≡ Err n → Err n ≡ walked_from w follow_last from (names path)
-      stopped_first e s = stopped_leg (row_found w) (unpack w).entries (unpack w).nodes follow_last others trail First (e ∙ first_leg) s ∙ both
+      stopped_first e s = stopped_leg (row_there w) (unpack w).entries (unpack w).nodes follow_last others trail First (e ∙ first_leg) s ∙ both
 
       walks_on_first : {r : Stretch} → Ok r ≡ met → only_directory (unpack w).nodes r.trail.node ≡ Ok tt →
-          Walking w heads next path follow_last from (start + size) r.trail
+          Walking w index path follow_last from (start + size) r.trail
       unfolding walked_from
       walks_on_first e s =
-          let on = next_leg (row_found w) (unpack w).entries (unpack w).nodes follow_last others trail walking.ready.few First ends (e ∙ first_leg) s in
+          let on = next_leg (row_there w) (unpack w).entries (unpack w).nodes follow_last others trail walking.ready.few First ends (e ∙ first_leg) s in
           record {
             ready = record { sound = walking.ready.sound; indexed = walking.ready.indexed; there = on.directory; few = on.few };
             valid = m.name.split.others_valid;
@@ -271,7 +281,7 @@ module _ {w heads next path : List ℕ} {follow_last : Bool} {from : Trail} {at 
     stopped_on_the_way m end s = stopped_first m end refl s
 
     pub walks_on : {r : Stretch} → Met w path follow_last at trail start size (Ok r) → eqb (start + size) (length path) ≡ false →
-        only_directory (unpack w).nodes r.trail.node ≡ Ok tt → Walking w heads next path follow_last from (start + size) r.trail
+        only_directory (unpack w).nodes r.trail.node ≡ Ok tt → Walking w index path follow_last from (start + size) r.trail
     walks_on m end s = walks_on_first m end refl s
 
 -- A LINK IS FOLLOWED
@@ -318,7 +328,7 @@ pub started : (d : ℕ) (target : List ℕ) (first s : ℕ) → first ≡ get_or
 unfolding start absolute
 started d target first s e f = f ∙ ap (λ (c : ℕ). elim (eqb c slash) as (λ _. ℕ) [ true ↦ 1 | false ↦ d ]) e
 
-module _ (w : List ℕ) (t : Trail) (found : ℕ) (target : List ℕ) where
+module _ (w : List ℕ) (t : Trail) (found : Option ℕ) (target : List ℕ) where
   pub no_link_left : 8 ≤ t.count → Err 7 ≡ link_walked w t found target
   unfolding link_walked
   no_link_left full = sym (simp (le-ltb t.count 8 full, link_walked))
@@ -330,7 +340,7 @@ module _ (w : List ℕ) (t : Trail) (found : ℕ) (target : List ℕ) where
   follows_target free e f g h = h ∙ rw (e, f, g) (sym (simp (lt-ltb t.count 8 free, link_walked)))
 
   -- the trail is fit for the target's names
-  pub ready_inside : {heads next : List ℕ} {s : ℕ} → s ≡ start t.node target → Ready w heads next t → t.count < 8 → Ready w heads next (through t found s)
+  pub ready_inside : {index : Index} {s : ℕ} → s ≡ start t.node target → Ready w index t → t.count < 8 → Ready w index (through t found s)
   ready_inside e ready free =
       record {
         sound = ready.sound;

@@ -5,7 +5,7 @@
 // the row of its entry, in two bytes; its place is read where the walk is over.
 ghost use Rattle.std.specs.Prelude.{◌≡◌, true, false, [], ◌∷◌, map, ◌<◌, eqb};
 ghost use Rattle.model.specs.Paths.{names, slash, valid_names, valid_path};
-ghost use Rattle.model.specs.Tables.{a_link, node_at};
+ghost use Rattle.model.specs.Tables.{entry_rows, a_link, node_at};
 ghost use Rattle.model.specs.Words.{unpack};
 ghost use Rattle.model.specs.Refusals.{refused};
 ghost use Rattle.model.specs.Sound.{sound_rows};
@@ -17,23 +17,22 @@ ghost use Rattle.goals.specs.Goals.{walked};
 ghost use Rattle.walk.specs.Trails.{stopped, through, followed, only_directory, walked_from, link_walked, place_in, Row, RowsKept, Ready};
 
 use goals::{Place, Stop, Walk};
-use index::{BUCKETS, find_entry, node_found};
+use index::{Index, find_entry, node_found};
 use model::{NAME_IS_FILE, NAME_MISSING, NINTH_LINK};
-use paths::{Next, SLASH, next_name};
+use paths::{Part, SLASH, next_name};
 use rows::{
-    Block, DIRECTORY, ENTRY_ROWS, LINK, ROOT, block_from, entry_directory, entry_name, node_kind,
-    target_in,
+    Block, DIRECTORY, LINK, ROOT, block_from, entry_directory, entry_name, node_kind, target_in,
 };
 
 const LINKS: usize = 8;
 
-// How far a walk has come: the node that it stands at, and the links followed so far, in the order met, each by one more than the row of its
-// entry. Unused room is 0.
+// How far a walk has come: the node that it stands at, and the links followed so far, in the order met, each by the row of its entry.
+// stays: no plainer: an ArrayVec for `count` and `rows` is not Copy, and a trail is kept where a name is resolved from it.
 #[derive(Clone, Copy)]
 struct Trail {
     node: u16,
     count: usize,
-    rows: [u16; 8],
+    rows: [Option<u16>; 8],
 }
 
 // Where some names led: the end entry's place, none where there was no name, and how far the walk has come there.
@@ -44,14 +43,8 @@ struct Stretch {
 }
 
 // The walk of a valid path over sound tables, with the index of their entries.
-pub fn walk(
-    words: &[u32],
-    heads: &[u16; BUCKETS],
-    next: &[u16; ENTRY_ROWS],
-    path: &[u8],
-    follow_last: bool,
-) -> Walk
-    requires indexed { Indexed words.now heads.now next.now }
+pub fn walk(words: &[u32], index: &Index, path: &[u8], follow_last: bool) -> Walk
+    requires indexed { Indexed words.now index.now }
     requires sound { sound_rows (unpack words.now) ≡ true }
     requires valid { valid_path path.now ≡ true }
     ensures { result ≡ walked (walk (unpack words.now).entries (unpack words.now).nodes follow_last path.now) }
@@ -59,9 +52,9 @@ pub fn walk(
     let from = Trail {
         node: ROOT,
         count: 0,
-        rows: [0; 8],
+        rows: [None; 8],
     };
-    match walk_names(words, heads, next, path, follow_last, from) {
+    match walk_names(words, index, path, follow_last, from) {
         Ok(whole) => Walk {
             stop: stop_of(whole.end, whole.trail.node),
             count: whole.trail.count,
@@ -84,24 +77,23 @@ fn stop_of(end: Option<Place>, node: u16) -> Stop
 #[cycle(follow_link_resolve_walk_names)]
 fn walk_names(
     words: &[u32],
-    heads: &[u16; BUCKETS],
-    next: &[u16; ENTRY_ROWS],
+    index: &Index,
     path: &[u8],
     follow_last: bool,
     from: Trail,
 ) -> Result<Stretch, u8>
-    requires ready { Ready words.now heads.now next.now from }
+    requires ready { Ready words.now index.now from }
     requires valid { valid_names path.now ≡ true }
     ensures { result ≡ walked_from words.now follow_last from (names path.now) }
 {
     let mut at = 0;
     let mut trail = from;
-    while let Next::Name { start, length } = next_name(path, at) {
+    while let Some(Part { start, length }) = next_name(path, at) {
         let name = block_from(path, start, length);
         at = start + length;
         let is_last = at == path.len();
         let follow = is_followed(is_last, follow_last);
-        let met = resolve(words, heads, next, name, follow, trail)?;
+        let met = resolve(words, index, name, follow, trail)?;
         if is_last {
             return Ok(met);
         }
@@ -122,51 +114,52 @@ fn is_followed(is_last: bool, follow_last: bool) -> bool
 #[cycle(follow_link_resolve_walk_names)]
 fn resolve(
     words: &[u32],
-    heads: &[u16; BUCKETS],
-    next: &[u16; ENTRY_ROWS],
+    index: &Index,
     name: Block,
     follow: bool,
     trail: Trail,
 ) -> Result<Stretch, u8>
-    requires ready { Ready words.now heads.now next.now trail }
+    requires ready { Ready words.now index.now trail }
     requires named { Named name }
     ensures { result ≡ walked_from words.now follow trail (name_of name ∷ []) }
 {
     let directory = trail.node;
-    let found = find_entry(words, heads, next, directory, name);
+    let found = find_entry(words, index, directory, name);
     let node = node_found(words, found);
-    if follow && node_kind(words, node) == LINK {
-        return follow_link(words, heads, next, node, found, trail);
+    match found {
+        Some(row) if follow && node_kind(words, node) == LINK => {
+            follow_link(words, index, node, row, trail)
+        }
+        _ => Ok(Stretch {
+            end: Some(Place { directory, name }),
+            trail: Trail { node, ..trail },
+        }),
     }
-    Ok(Stretch {
-        end: Some(Place { directory, name }),
-        trail: Trail { node, ..trail },
-    })
 }
 
 // Walks the target of the link that was found there, its last name too.
 #[cycle(follow_link_resolve_walk_names)]
 fn follow_link(
     words: &[u32],
-    heads: &[u16; BUCKETS],
-    next: &[u16; ENTRY_ROWS],
+    index: &Index,
     node: u16,
-    found: usize,
+    row: usize,
     trail: Trail,
 ) -> Result<Stretch, u8>
-    requires ready { Ready words.now heads.now next.now trail }
-    requires row { Row found }
+    requires ready { Ready words.now index.now trail }
+    requires row { row < entry_rows }
     requires link { (node_at (unpack words.now).nodes node).kind ≡ a_link }
-    ensures { result ≡ link_walked words.now trail found (node_at (unpack words.now).nodes node).target }
+    ensures { result ≡ link_walked words.now trail (Some row) (node_at (unpack words.now).nodes node).target }
 {
     if trail.count >= LINKS {
         return Err(NINTH_LINK);
     }
-    let target = target_in(words, node as usize - 1);
+    let target = target_in(words, usize::from(node) - 1);
     let names = &target.bytes[..target.length];
     let start = start_of(target.bytes[0], trail.node);
-    let onward = through_link(trail, found as u16, start);
-    walk_names(words, heads, next, names, true, onward)
+    // stays: no plainer: the row is below 512 by contract, and u16::try_from gives a Result whose Err never comes.
+    let onward = through_link(trail, row as u16, start);
+    walk_names(words, index, names, true, onward)
 }
 
 // Where a walk has to go on, something has to be there, and that a directory.
@@ -189,34 +182,34 @@ fn start_of(first: u8, directory: u16) -> u16
 }
 
 // One more link was followed, and the walk stands where its target starts.
-fn through_link(trail: Trail, found: u16, start: u16) -> Trail
+fn through_link(trail: Trail, row: u16, start: u16) -> Trail
     requires { trail.count < 8 }
-    ensures { result ≡ through trail found start }
+    ensures { result ≡ through trail (Some row) start }
 {
     let mut onward = trail;
-    onward.rows[trail.count] = found;
+    onward.rows[trail.count] = Some(row);
     onward.count += 1;
     onward.node = start;
     onward
 }
 
 // The places of these rows; for no row, a blank one.
-fn places_in(words: &[u32], rows: [u16; 8]) -> [Place; 8]
+fn places_in(words: &[u32], rows: [Option<u16>; 8]) -> [Place; 8]
     requires { (Stands words.now) × (RowsKept rows) }
     ensures { result ≡ map (place_in words.now) rows }
 {
     rows.map(|found| place_in(words, found))
 }
 
-// The place of the entry of a row, told as `find_entry` tells rows.
-fn place_in(words: &[u32], found: u16) -> Place
+// The place of the entry of a row.
+fn place_in(words: &[u32], found: Option<u16>) -> Place
     requires { (Stands words.now) × (Row found) }
     ensures { result ≡ place_in words.now found }
 {
-    if found == 0 {
+    let Some(row) = found else {
         return Place::default();
-    }
-    let row = found as usize - 1;
+    };
+    let row = usize::from(row);
     Place {
         directory: entry_directory(words, row),
         name: entry_name(words, row),

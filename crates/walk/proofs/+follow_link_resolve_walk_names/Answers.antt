@@ -10,7 +10,7 @@ use lib.Dec.{eqb}
 use lib.ListN.{length, get_or, take, drop}
 use Rattle.std.proofs.Common.{Fits, w8}
 use Rattle.std.proofs.lemmas.Result.{err_from_is_err_and}
-use Rattle.std.specs.Prelude.{Result}
+use Rattle.std.specs.Prelude.{Option, Some, Result}
 use Rattle.model.specs.Lists.{filled}
 use Rattle.model.specs.Paths.{longest_target, valid_names}
 use Rattle.model.specs.Sound.{sound_rows}
@@ -20,8 +20,7 @@ use Rattle.rows.specs.Stands.{node_row}
 use Rattle.rows.specs.Blocks.{name_of, block_of}
 use Rattle.rows.specs.declared.Block.{Block}
 use Rattle.rows.specs.declared.Target.{Target}
-use Rattle.paths.specs.declared.Next.{Next}
-use Rattle.paths.specs.declared.Next.TheVariants.{Name}
+use Rattle.paths.specs.declared.Part.{Part}
 use Rattle.paths.specs.Split.{next}
 use Rattle.paths.proofs.Splits.{next_ends}
 use Rattle.walk.specs.declared.Stretch.{Stretch}
@@ -29,10 +28,11 @@ use Rattle.walk.specs.declared.Trail.{Trail}
 use Rattle.walk.specs.Trails.{followed, walked_from}
 use Rattle.walk.proofs.Found.{sound_walkable}
 use Rattle.walk.proofs.Steps.{TargetRead, link_in_range, target_read, started, no_link_left, ready_inside, follows_target}
-use Rattle.walk.proofs.Steps.{in_no_directory, node_met, resolves_link, stops_at_entry}
+use Rattle.walk.proofs.Steps.{in_no_directory, node_met, nothing_found, resolves_link, stops_at_entry}
 use Rattle.walk.proofs.Steps.{NextName, next_name_met, block_names, Met, stops_by_slash, last_resolved, refused_whole, stopped_on_the_way, walks_on}
 use Rattle.walk.proofs.+follow_link_resolve_walk_names.Goals as goal
-use Rattle.walk.proofs.+follow_link_resolve_walk_names.Goals.{resolve-else-follow-via-then-follow+else-node_kind-eq-LINK, resolve-else-follow-via-else-follow}
+use Rattle.walk.proofs.+follow_link_resolve_walk_names.Goals.{resolve-in_default-via-in-Some+then-follow+else-node_kind-eq-LINK}
+use Rattle.walk.proofs.+follow_link_resolve_walk_names.Goals.{resolve-in_default-via-in-Some+else-follow, resolve-in_default-via-in_default}
 
 -- FOLLOWING A LINK
 
@@ -48,10 +48,10 @@ short r = omega (arith, r.room, r.count, r.good.short)
 
 pub follow_link-returns-then-trail-ge-LINKS : goal.follow_link-returns-then-trail-ge-LINKS
 follow_link-returns-then-trail-ge-LINKS t c =
-    no_link_left c.args.words.now c.args.trail c.args.found (node_at (unpack c.args.words.now).nodes c.args.node).target c.if-trail-ge-LINKS.true
+    no_link_left c.args.words.now c.args.trail (Some c.args.row) (node_at (unpack c.args.words.now).nodes c.args.node).target c.if-trail-ge-LINKS.true
 
-pub follow_link-overflow_sub-node : goal.follow_link-overflow_sub-node
-follow_link-overflow_sub-node t c =
+pub follow_link-overflow_sub-from : goal.follow_link-overflow_sub-from
+follow_link-overflow_sub-from t c =
     let range = link_in_range c.args.words.now (sound_walkable c.args.words.now c.requires.ready.sound) c.args.node c.requires.link in
     let z = range.0 in
     omega arith
@@ -65,20 +65,20 @@ follow_link-target_in-target-requires t c =
 
 pub follow_link-shared_ref_as_front-names : goal.follow_link-shared_ref_as_front-names
 follow_link-shared_ref_as_front-names t c =
-    let r = known c.args.words.now c.requires.ready.sound c.args.node c.requires.link c.target_in-target.ensures in
+    let r = known c.args.words.now c.requires.ready.sound c.args.node c.requires.link (rw c.from.ensures at c.target_in-target.ensures) in
     omega (arith, short r, r.room)
 
 pub follow_link-walk_names-requires : goal.follow_link-walk_names-requires
 follow_link-walk_names-requires t c =
     let w = c.args.words.now in
     let target = (node_at (unpack w).nodes c.args.node).target in
-    let r = known w c.requires.ready.sound c.args.node c.requires.link c.target_in-target.ensures in
+    let r = known w c.requires.ready.sound c.args.node c.requires.link (rw c.from.ensures at c.target_in-target.ensures) in
     let from = started c.args.trail.node target _ _ r.first c.start_of-start.ensures in
     let less = c.decreases in
     let added = c.through_link-onward.ensures in (
       omega (arith, ap (λ (u : Trail). u.count) added),
       (
-        rw added (ready_inside w c.args.trail c.args.found target from c.requires.ready c.if-trail-ge-LINKS.false),
+        rw added (ready_inside w c.args.trail (Some c.args.row) target from c.requires.ready c.if-trail-ge-LINKS.false),
         subst (λ (l : List ℕ). valid_names l ≡ true) (sym r.whole) r.good.names_valid,
       ),
     )
@@ -87,9 +87,9 @@ pub follow_link-returns : goal.follow_link-returns
 follow_link-returns t c =
     let w = c.args.words.now in
     let target = (node_at (unpack w).nodes c.args.node).target in
-    let r = known w c.requires.ready.sound c.args.node c.requires.link c.target_in-target.ensures in
+    let r = known w c.requires.ready.sound c.args.node c.requires.link (rw c.from.ensures at c.target_in-target.ensures) in
     let from = started c.args.trail.node target _ _ r.first c.start_of-start.ensures in
-    follows_target w c.args.trail c.args.found target c.if-trail-ge-LINKS.false c.through_link-onward.ensures from r.whole c.walk_names.ensures
+    follows_target w c.args.trail (Some c.args.row) target c.if-trail-ge-LINKS.false c.through_link-onward.ensures from r.whole c.walk_names.ensures
 
 -- RESOLVING A NAME
 
@@ -101,34 +101,31 @@ resolve-find_entry-found-requires t c =
 pub resolve-node_found-node-requires : goal.resolve-node_found-node-requires
 resolve-node_found-node-requires t c = (c.requires.ready.indexed.stands, c.find_entry-found.ensures.1)
 
-pub resolve-follow_link-requires : goal.resolve-follow_link-requires
-resolve-follow_link-requires t c =
-    let less = c.decreases in
-    (omega arith, (c.requires.ready, (c.find_entry-found.ensures.1, sym c.node_kind.ensures ∙ c.if-node_kind-eq-LINK.true)))
-
-pub resolve-returns-then-node_kind-eq-LINK : goal.resolve-returns-then-node_kind-eq-LINK
-resolve-returns-then-node_kind-eq-LINK t c =
+pub resolve-returns-in-Some : goal.resolve-returns-in-Some
+resolve-returns-in-Some t c =
     let w = c.args.words.now in
     let met = node_met c.requires.ready c.args.name c.find_entry-found.ensures.0 c.node_found-node.ensures in
     resolves_link w (sound_walkable w c.requires.ready.sound) c.args.trail c.args.name c.node_found-node.result met c.args.follow
-    c.find_entry-found.ensures.0 c.if-follow.true (sym c.node_kind.ensures ∙ c.if-node_kind-eq-LINK.true) c.follow_link.ensures
+    (Some c.in-Some.row) c.in-Some.ensures.0 c.if-follow.true (sym c.node_kind.ensures ∙ c.if-node_kind-eq-LINK.true) c.follow_link.ensures
 
-pub resolve-returns : goal.resolve-returns
-resolve-returns t c =
+pub resolve-returns-in_default : goal.resolve-returns-in_default
+resolve-returns-in_default t c =
     let w = c.args.words.now in
+    let node = c.node_found-node.result in
     let met = node_met c.requires.ready c.args.name c.find_entry-found.ensures.0 c.node_found-node.ensures in
-    let stays : ((node_at (unpack w).nodes c.node_found-node.result).kind ≢ a_link) ⊎ (c.args.follow ≡ false) =
-    elim c.else-follow.branch [
-      | resolve-else-follow-via-then-follow+else-node_kind-eq-LINK v ↦ inl (λ k. v.if-node_kind-eq-LINK.false (v.node_kind.ensures ∙ k))
-      | resolve-else-follow-via-else-follow v ↦ inr v.if-follow.false
+    let stays : ((node_at (unpack w).nodes node).kind ≢ a_link) ⊎ (c.args.follow ≡ false) =
+    elim c.in_default.branch [
+      | resolve-in_default-via-in-Some+then-follow+else-node_kind-eq-LINK v ↦ inl (λ k. v.if-node_kind-eq-LINK.false (v.node_kind.ensures ∙ k))
+      | resolve-in_default-via-in-Some+else-follow v ↦ inr v.if-follow.false
+      | resolve-in_default-via-in_default v ↦ inl (nothing_found w node c.node_found-node.ensures v.in_default.is)
     ] in
-    stops_at_entry w (sound_walkable w c.requires.ready.sound) c.args.trail c.args.name c.node_found-node.result met c.args.follow c.requires.named stays
+    stops_at_entry w (sound_walkable w c.requires.ready.sound) c.args.trail c.args.name node met c.args.follow c.requires.named stays
 
 -- WALKING NAMES
 
 -- what the loop knows of the name that comes next
-named : {path : List ℕ} {at start size : ℕ} → ((i : ℕ) → Fits w8 (get_or path i 0)) → valid_names (drop at path) ≡ true → {r : Next} → r ≡ next path at →
-    r ≡ Name start size → NextName path at start size
+named : {path : List ℕ} {at start size : ℕ} → ((i : ℕ) → Fits w8 (get_or path i 0)) → valid_names (drop at path) ≡ true → {r : Option Part} → r ≡ next path at →
+    r ≡ Some (record { start = start; length = size }) → NextName path at start size
 named bytes valid e is = next_name_met _ _ _ _ (λ i. (bytes i).fits) valid (sym e ∙ is)
 
 -- and where it has resolved that name
@@ -145,48 +142,48 @@ walk_names-returns t c = stops_by_slash c.loop-start.invariant (next_ends c.args
 
 pub walk_names-block_from-name-requires : goal.walk_names-block_from-name-requires
 walk_names-block_from-name-requires t c =
-    let n = named c.type_inv.path c.loop-start.invariant.valid c.next_name.ensures c.in-Name.is in
+    let n = named c.type_inv.path c.loop-start.invariant.valid c.next_name.ensures c.in-Some.is in
     (n.inside, n.short)
 
 pub walk_names-overflow_add-at : goal.walk_names-overflow_add-at
 walk_names-overflow_add-at t c =
-    let n = named c.type_inv.path c.loop-start.invariant.valid c.next_name.ensures c.in-Name.is in
+    let n = named c.type_inv.path c.loop-start.invariant.valid c.next_name.ensures c.in-Some.is in
     omega (arith, n.inside)
 
 pub walk_names-resolve-requires : goal.walk_names-resolve-requires
 walk_names-resolve-requires t c =
-    let n = named c.type_inv.path c.loop-start.invariant.valid c.next_name.ensures c.in-Name.is in
+    let n = named c.type_inv.path c.loop-start.invariant.valid c.next_name.ensures c.in-Some.is in
     let less = c.decreases in
     let more = c.loop-start.invariant.more in
     (omega arith, (c.loop-start.invariant.ready, block_names c.args.path.now _ _ _ n _ c.block_from-name.ensures))
 
 pub walk_names-returns-in_err-met : goal.walk_names-returns-in_err-met
 walk_names-returns-in_err-met t c =
-    let n = named c.type_inv.path c.loop-start.invariant.valid c.next_name.ensures c.in-Name.is in
+    let n = named c.type_inv.path c.loop-start.invariant.valid c.next_name.ensures c.in-Some.is in
     let met = resolved n c.block_from-name.ensures c.is_followed-follow.ensures c.in_err-met.ensures in
     let p = err_from_is_err_and c.from_residual.result c.from_residual.ensures.1 in
     rw (p.1, p.2) (refused_whole c.loop-start.invariant met)
 
 pub walk_names-returns-then-is_last : goal.walk_names-returns-then-is_last
 walk_names-returns-then-is_last t c =
-    let n = named c.type_inv.path c.loop-start.invariant.valid c.next_name.ensures c.in-Name.is in
+    let n = named c.type_inv.path c.loop-start.invariant.valid c.next_name.ensures c.in-Some.is in
     let met = resolved n c.block_from-name.ensures c.is_followed-follow.ensures c.in_ok-met.ensures in
     last_resolved c.loop-start.invariant met (eq-eqb _ _ c.if-is_last.true)
 
 pub walk_names-returns-in_err-only_directory : goal.walk_names-returns-in_err-only_directory
 walk_names-returns-in_err-only_directory t c =
-    let n = named c.type_inv.path c.loop-start.invariant.valid c.next_name.ensures c.in-Name.is in
+    let n = named c.type_inv.path c.loop-start.invariant.valid c.next_name.ensures c.in-Some.is in
     let met = resolved n c.block_from-name.ensures c.is_followed-follow.ensures c.in_ok-met.ensures in
     let p = err_from_is_err_and c.from_residual-in_err-only_directory.result c.from_residual-in_err-only_directory.ensures.1 in
     rw (p.1, p.2) (stopped_on_the_way c.loop-start.invariant met (ne_eqb _ _ c.if-is_last.false) (sym c.in_err-only_directory.ensures))
 
 pub walk_names-loop-start-smaller : goal.walk_names-loop-start-smaller
 walk_names-loop-start-smaller t c =
-    let n = named c.type_inv.path c.loop-start.invariant.valid c.next_name.ensures c.in-Name.is in
+    let n = named c.type_inv.path c.loop-start.invariant.valid c.next_name.ensures c.in-Some.is in
     omega (arith, n.onward, n.inside)
 
 pub walk_names-loop-start-preserved : goal.walk_names-loop-start-preserved
 walk_names-loop-start-preserved t c =
-    let n = named c.type_inv.path c.loop-start.invariant.valid c.next_name.ensures c.in-Name.is in
+    let n = named c.type_inv.path c.loop-start.invariant.valid c.next_name.ensures c.in-Some.is in
     let met = resolved n c.block_from-name.ensures c.is_followed-follow.ensures c.in_ok-met.ensures in
     walks_on c.loop-start.invariant met (ne_eqb _ _ c.if-is_last.false) (sym c.in_ok-only_directory.ensures)

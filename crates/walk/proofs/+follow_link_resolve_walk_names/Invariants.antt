@@ -15,7 +15,7 @@ abbrev pub decreases-walk_names : goal.decreases-walk_names
 decreases-walk_names l = 3 * (8 - l.from.count) + 2
 
 abbrev pub invariant-walk_names-loop-start : goal.invariant-walk_names-loop-start
-invariant-walk_names-loop-start l = Walking l.words l.heads l.next l.path l.follow_last l.fn.from l.at l.trail
+invariant-walk_names-loop-start l = Walking l.words l.index l.path l.follow_last l.fn.from l.at l.trail
 
 abbrev pub decreases-walk_names-loop-start : goal.decreases-walk_names-loop-start
 decreases-walk_names-loop-start l = length l.path - l.at

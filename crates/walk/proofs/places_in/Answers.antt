@@ -1,6 +1,7 @@
 -- The places of rows: the closure reads one place of each. Assumes nothing.
 use mathlib.Core.Path.{ap}
 use lib.ListN.{length}
+use Rattle.std.specs.Prelude.{None}
 use Rattle.std.proofs.Common.{rules, tests, arith}
 use Rattle.std.proofs.lemmas.Iterator.Consumers.{YieldsList-from_shown}
 use Rattle.std.proofs.lemmas.Iterator.Adapters.{serves_from_places}
@@ -20,7 +21,7 @@ map-requires c = (
     (
       omega arith,
       serves_from_places (YieldsList-from_shown list_steps (λ x. x) (λ s. s) (λ s t e. ap length e) (λ s x t e. e) c.args.rows)
-          (λ x q k. search (rules, tests)) (λ x k h e. let pre : Stands c.args.words.now × Row x = (c.requires.0, rw e (rw (get_or_default c.args.rows k x 0 h) (each_at c.requires.1.each (omega arith) k))) in search rules),
+          (λ x q k. search (rules, tests)) (λ x k h e. let pre : Stands c.args.words.now × Row x = (c.requires.0, rw e (rw (get_or_default c.args.rows k x None h) (each_at c.requires.1.each (omega arith) k))) in search rules),
     ),
   ),
 )
