@@ -104,6 +104,7 @@ pub fn node_found(words: &[u32], found: Option<usize>) -> u16
 }
 
 // What the bucket of a place goes by.
+#[tactic(auto, unfolding(crate::specs::Indexed::sum_of))]
 pub fn sum_of(directory: u16, name: Block) -> u64
     ensures { (result ≡ sum_of directory name) × (result < 17592186044416) }
 {
@@ -114,6 +115,7 @@ pub fn sum_of(directory: u16, name: Block) -> u64
         + u64::from(name.fourth) * 727
 }
 
+#[tactic(auto, unfolding(crate::specs::Indexed::place_bucket))]
 fn bucket_of(directory: u16, name: Block) -> usize
     ensures { (result ≡ place_bucket directory name) × (result < entry_buckets) }
 {
