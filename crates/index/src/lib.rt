@@ -40,6 +40,7 @@ impl<const SIZE: usize, const ROWS: usize> Links<SIZE, ROWS> {
         requires { (bucket < SIZE) × Asked (F.pre holds) self.now.next (slice_index self.now.heads bucket) }
         ensures { Last (F.post holds) self.now.next (slice_index self.now.heads bucket) (counted result) }
     {
+        // stays: tried as successors(..).find(..): what find requires (can, finite, callable) stayed open, since it holds along this chain alone.
         let mut found = usize::from(self.heads[bucket]);
         while let Some(row) = found.checked_sub(1) {
             if holds(row) {
