@@ -5,56 +5,23 @@ use mathlib.Core.List.{List}
 use Prim.Native.Nat.{ℕ, ◌<◌}
 use native.Mathlib.Omega.{arith}
 use native.Mathlib.Decide.{dec_lt}
-use borrow.Author.Tests.{eq-eqb, ne_eqb}
 use lib.Dec.{eqb}
 use lib.ListN.{length, get_or}
 use Rattle.std.specs.Prelude.{HoldsAt, MatchBool}
 use Rattle.std.specs.List.{AllWithin, range_with_len}
 use Rattle.std.proofs.lemmas.List.FromFn.{length-range_with_len, get_or-range_with_len}
 use Rattle.model.specs.Lists.{all}
-use Rattle.model.specs.Tables.{Hold, a_directory, no_hold, free_hold, hold_rows, node_at, is_directory, listed}
+use Rattle.model.specs.Tables.{Hold, no_hold, free_hold, hold_rows, is_directory, listed}
 use Rattle.model.specs.Sound.{each_used, holds_in_directories, holds_of_listed}
 use Rattle.model.specs.Words.{unpack}
 use Rattle.laws.proofs.AllRows.{all_both, all_alike}
 use Rattle.laws.proofs.Bools.{clash, or_and, or_left, is_false}
 use Rattle.laws.proofs.Each.{each_by_place, each_passes}
 use Rattle.laws.proofs.Members.{at_in, all_in}
-use Rattle.rows.specs.Stands.{hold_row}
 use Rattle.rows.proofs.Parts.{holds_full}
 use Rattle.hold_rules.specs.Placed.{placed, row_placed}
 use Rattle.hold_rules.specs.Used.{used_rows}
 use Rattle.hold_rules.proofs.Used.{used_inside, free_behind}
-
--- ONE HOLD, as the code tests it
-
-module _ (w : List ℕ) (row : ℕ) {d : ℕ} (p : d ≡ (hold_row w row).place.directory) where
-  pub no_hold_there : d ≡ 0 → true ≡ row_placed w row
-  unfolding free_hold
-  no_hold_there z = rw (eq-eqb (hold_row w row).place.directory 0 (sym p ∙ z))
-
-  module _ (u : d ≡ 0 → ⊥) {k : ℕ} (q : k ≡ (node_at (unpack w).nodes d).kind) where
-    used_row : free_hold (hold_row w row) ≡ false
-    unfolding free_hold
-    used_row = ne_eqb (hold_row w row).place.directory 0 (λ z. u (p ∙ z))
-
-    its_kind : k ≡ (node_at (unpack w).nodes (hold_row w row).place.directory).kind
-    its_kind = q ∙ ap (λ y. (node_at (unpack w).nodes y).kind) p
-
-    pub hold_no_directory : (k ≡ a_directory → ⊥) → false ≡ row_placed w row
-    unfolding is_directory
-    hold_no_directory n =
-        rw (used_row, ne_eqb (node_at (unpack w).nodes (hold_row w row).place.directory).kind a_directory (λ z. n (its_kind ∙ z)))
-
-    module _ (two : k ≡ a_directory) {m : ℕ} (f : m ≡ (hold_row w row).process) where
-      in_directory : is_directory (unpack w).nodes (hold_row w row).place.directory ≡ true
-      unfolding is_directory
-      in_directory = eq-eqb (node_at (unpack w).nodes (hold_row w row).place.directory).kind a_directory (sym its_kind ∙ two)
-
-      pub of_no_process : m ≡ 0 → false ≡ row_placed w row
-      of_no_process z = rw (used_row, in_directory, eq-eqb (hold_row w row).process 0 (sym f ∙ z))
-
-      pub of_listed : (m ≡ 0 → ⊥) → {r : Bool} → r ≡ listed (unpack w).processes m → r ≡ row_placed w row
-      of_listed n e = rw (used_row, in_directory, ne_eqb (hold_row w row).process 0 (λ z. n (f ∙ z))) (e ∙ ap (listed (unpack w).processes) f)
 
 -- EVERY ROW
 

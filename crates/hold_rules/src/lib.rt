@@ -45,6 +45,7 @@ pub fn holds_placed(words: &[u32], index: &ProcessIndex, rows: usize) -> bool
 }
 
 // Whether no hold stands in two rows. The chains go by process too, so that many processes on one place make no long one.
+#[tactic(auto, using(crate::proofs::Used::used_inside))]
 pub fn holds_apart(words: &[u32], rows: usize) -> bool
     requires { (Stands words.now) × (rows ≡ used_rows words.now) }
     ensures { result ≡ holds_distinct (unpack words.now) }
@@ -64,6 +65,7 @@ pub fn holds_apart(words: &[u32], rows: usize) -> bool
 }
 
 // Whether all end holds on one place are of one user. Each is compared with the last before it alone: those before agree.
+#[tactic(auto, using(crate::proofs::Used::used_inside))]
 pub fn ends_agree(words: &[u32], index: &ProcessIndex, rows: usize) -> bool
     requires { (ProcessesIndexed words.now index.now) × (rows ≡ used_rows words.now) }
     ensures { result ≡ ends_of_one_user (unpack words.now) }
@@ -81,6 +83,7 @@ pub fn ends_agree(words: &[u32], index: &ProcessIndex, rows: usize) -> bool
     true
 }
 
+#[tactic(auto, unfolding(model::specs::Tables::free_hold, model::specs::Tables::is_directory))]
 fn hold_placed(words: &[u32], index: &ProcessIndex, row: usize) -> bool
     requires { (ProcessesIndexed words.now index.now) × (row < hold_rows) }
     ensures { result ≡ row_placed words.now row }
@@ -89,14 +92,8 @@ fn hold_placed(words: &[u32], index: &ProcessIndex, row: usize) -> bool
     if directory == 0 {
         return true;
     }
-    if node_kind(words, directory) != DIRECTORY {
-        return false;
-    }
     let process = hold_process(words, row);
-    if process == 0 {
-        return false;
-    }
-    is_in_index(words, index, process)
+    node_kind(words, directory) == DIRECTORY && process != 0 && is_in_index(words, index, process)
 }
 
 fn bucket_of_place(words: &[u32], row: usize) -> usize
@@ -142,6 +139,7 @@ fn on_same_place(words: &[u32], a: usize, b: usize) -> bool
     hold_is_on(words, a, hold_directory(words, b), hold_name(words, b))
 }
 
+#[tactic(auto, unfolding(model::specs::Sound::same_hold))]
 fn is_same(words: &[u32], a: usize, b: usize) -> bool
     requires { (Stands words.now) × ((a < hold_rows) × (b < hold_rows)) }
     ensures { result ≡ same_hold (hold_row words.now a) (hold_row words.now b) }

@@ -40,6 +40,7 @@ impl<const SIZE: usize, const ROWS: usize> Links<SIZE, ROWS> {
         requires { (bucket < SIZE) × Asked (F.pre holds) self.now.next (slice_index self.now.heads bucket) }
         ensures { Last (F.post holds) self.now.next (slice_index self.now.heads bucket) (counted result) }
     {
+        // stays: tried as successors(..).find(..): what find requires (can, finite, callable) stayed open, since it holds along this chain alone.
         let mut found = usize::from(self.heads[bucket]);
         while let Some(row) = found.checked_sub(1) {
             if holds(row) {
@@ -104,6 +105,7 @@ pub fn node_found(words: &[u32], found: Option<usize>) -> u16
 }
 
 // What the bucket of a place goes by.
+#[tactic(auto, unfolding(crate::specs::Indexed::sum_of))]
 pub fn sum_of(directory: u16, name: Block) -> u64
     ensures { (result ≡ sum_of directory name) × (result < 17592186044416) }
 {
@@ -114,6 +116,7 @@ pub fn sum_of(directory: u16, name: Block) -> u64
         + u64::from(name.fourth) * 727
 }
 
+#[tactic(auto, unfolding(crate::specs::Indexed::place_bucket))]
 fn bucket_of(directory: u16, name: Block) -> usize
     ensures { (result ≡ place_bucket directory name) × (result < entry_buckets) }
 {

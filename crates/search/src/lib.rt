@@ -17,7 +17,6 @@ ghost use Rattle.search.specs.Rows.{first_row};
 use rows::{
     Block, ENTRY_ROWS, HOLD_ROWS, HoldRow, NODE_ROWS, PROCESS_ROWS, entry_directory, entry_name,
     hold_directory, hold_name, hold_process, hold_role, kind_in, process_number, process_user,
-    same_blocks,
 };
 
 // The user whom no hold keeps out.
@@ -73,10 +72,7 @@ pub fn entry_is_at(words: &[u32], row: usize, directory: u16, name: Block) -> bo
     requires { (Stands words.now) × ((row < entry_rows) × (Named name)) }
     ensures { result ≡ at (place_of directory name) (entry_row words.now row) }
 {
-    if entry_directory(words, row) != directory {
-        return false;
-    }
-    same_blocks(entry_name(words, row), name)
+    entry_directory(words, row) == directory && entry_name(words, row) == name
 }
 
 // Whether any entry stands in the directory.
@@ -94,10 +90,7 @@ pub fn hold_is_on(words: &[u32], row: usize, directory: u16, name: Block) -> boo
     requires { (Stands words.now) × ((row < hold_rows) × (Named name)) }
     ensures { result ≡ on (some (place_of directory name)) (hold_row words.now row) }
 {
-    if hold_directory(words, row) != directory {
-        return false;
-    }
-    same_blocks(hold_name(words, row), name)
+    hold_directory(words, row) == directory && hold_name(words, row) == name
 }
 
 // Whether the hold of a row is this one.
@@ -105,16 +98,9 @@ fn hold_is(words: &[u32], row: usize, hold: HoldRow) -> bool
     requires { (Stands words.now) × ((row < hold_rows) × (Named hold.name)) }
     ensures { result ≡ same_hold (hold_of hold) (hold_row words.now row) }
 {
-    if hold.process != hold_process(words, row) {
-        return false;
-    }
-    if hold.role != hold_role(words, row) {
-        return false;
-    }
-    if hold.directory != hold_directory(words, row) {
-        return false;
-    }
-    same_blocks(hold.name, hold_name(words, row))
+    hold.process == hold_process(words, row)
+        && hold.role == hold_role(words, row)
+        && hold_is_on(words, row, hold.directory, hold.name)
 }
 
 pub fn has_hold(words: &[u32], hold: HoldRow) -> bool

@@ -63,7 +63,8 @@ module _ (entries : List Entry) (nodes : List Node) (n : ℕ) where
   not_entered follow_last k rest {m} e = go (eqb (node_at nodes n).kind 0) (eqb (node_at nodes n).kind a_directory) e
     where
       go : (none_there its_directory : Bool)
-          → ◌≡◌ {A = Result (Unit {0}) ℕ} (elim none_there as (λ _. Result (Unit {0}) ℕ) [ true ↦ Err 8 | false ↦ elim its_directory as (λ _. Result (Unit {0}) ℕ) [ true ↦ Ok tt | false ↦ Err 9 ] ]) (Err m)
+          → ◌≡◌ {A = Result (Unit {0}) ℕ}
+              (elim none_there as (λ _. Result (Unit {0}) ℕ) [ true ↦ Err 8 | false ↦ elim its_directory as (λ _. Result (Unit {0}) ℕ) [ true ↦ Ok tt | false ↦ Err 9 ] ]) (Err m)
           → elim none_there as (λ _. Outcome Goal) [
             | true ↦ refused 8
             | false ↦ elim its_directory as (λ _. Outcome Goal) [ true ↦ walk_within entries nodes follow_last k n rest | false ↦ refused 9 ]
@@ -78,7 +79,8 @@ module _ (entries : List Entry) (nodes : List Node) (n : ℕ) where
   enters e = go (eqb (node_at nodes n).kind 0) (eqb (node_at nodes n).kind a_directory) e
     where
       go : (none_there its_directory : Bool)
-          → ◌≡◌ {A = Result (Unit {0}) ℕ} (elim none_there as (λ _. Result (Unit {0}) ℕ) [ true ↦ Err 8 | false ↦ elim its_directory as (λ _. Result (Unit {0}) ℕ) [ true ↦ Ok tt | false ↦ Err 9 ] ]) (Ok tt)
+          → ◌≡◌ {A = Result (Unit {0}) ℕ}
+              (elim none_there as (λ _. Result (Unit {0}) ℕ) [ true ↦ Err 8 | false ↦ elim its_directory as (λ _. Result (Unit {0}) ℕ) [ true ↦ Ok tt | false ↦ Err 9 ] ]) (Ok tt)
           → its_directory ≡ true
       go true d e = let z : ◌≡◌ {A = ℕ} 0 1 = cc in absurd (omega arith)
       go false true e = refl

@@ -1,6 +1,6 @@
 #![tactic(auto)]
 // Where a path leads over lent words, without a call: any words and any path are tested first, and the goal of the walk is written as numbers.
-ghost use Rattle.std.specs.Prelude.{◌≡◌, ◌+◌, ◌*◌, ◌≤◌, ◌<◌, length, replicate};
+ghost use Rattle.std.specs.Prelude.{◌≡◌, ◌+◌, ◌*◌, ◌≤◌, length, replicate};
 ghost use Rattle.std.proofs.lemmas.List.Edits.{sets};
 ghost use Rattle.model.specs.Lists.{joined};
 ghost use Rattle.walk_told.specs.Arrivals.{walking, Arrives, goal_size, place_size, most_elements, elements_at, place_words, end_place, goal_words, arrival_at};

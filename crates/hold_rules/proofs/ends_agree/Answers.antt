@@ -17,11 +17,6 @@ hold_role-requires c =
     let inside : c.loop-row.row < hold_rows = omega (arith, used_inside c.args.words.now c.requires.1) in
     (c.requires.0.stands, inside)
 
-pub bucket_of_place-bucket-requires : goal.bucket_of_place-bucket-requires
-bucket_of_place-bucket-requires c =
-    let inside : c.loop-row.row < hold_rows = omega (arith, used_inside c.args.words.now c.requires.1) in
-    (c.requires.0.stands, inside)
-
 pub agrees_with_last-requires : goal.agrees_with_last-requires
 agrees_with_last-requires c =
     let inside : c.loop-row.row < hold_rows = omega (arith, used_inside c.args.words.now c.requires.1) in

@@ -18,11 +18,6 @@ hold_directory-requires c =
     let inside : c.loop-row.row-counter < hold_rows = omega (arith, used_inside c.args.words.now c.requires.1) in
     (c.requires.0, inside)
 
-pub bucket_of_hold-bucket-requires : goal.bucket_of_hold-bucket-requires
-bucket_of_hold-bucket-requires c =
-    let inside : c.loop-row.row-counter < hold_rows = omega (arith, used_inside c.args.words.now c.requires.1) in
-    (c.requires.0, inside)
-
 pub last_in_chain-requires : goal.last_in_chain-requires
 last_in_chain-requires c =
     let inside : c.loop-row.row-counter < hold_rows = omega (arith, used_inside c.args.words.now c.requires.1) in

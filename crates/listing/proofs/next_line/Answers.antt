@@ -42,6 +42,7 @@ returns-then-taken-eq0-2 c = (
 
 pub returns : goal.returns
 returns c = (
-  step_line _ _ _ _ _ (some_left c.args.bytes.now c.if-is_empty.ensures) c.if-out-lt-LONGEST_LINE.false c.serve_tested-verdict.ensures.0 c.put_line-length.ensures c.if-taken-eq0-2.false c.if-setting-eq18446744073709551615.false,
+  step_line _ _ _ _ _ (some_left c.args.bytes.now c.if-is_empty.ensures) c.if-out-lt-LONGEST_LINE.false c.serve_tested-verdict.ensures.0 c.put_line-length.ensures c.if-taken-eq0-2.false
+      c.if-setting-eq18446744073709551615.false,
   c.serve_tested-verdict.ensures.1,
 )

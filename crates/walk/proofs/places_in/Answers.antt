@@ -21,7 +21,8 @@ map-requires c = (
     (
       omega arith,
       serves_from_places (YieldsList-from_shown list_steps (λ x. x) (λ s. s) (λ s t e. ap length e) (λ s x t e. e) c.args.rows)
-          (λ x q k. search (rules, tests)) (λ x k h e. let pre : Stands c.args.words.now × Row x = (c.requires.0, rw e (rw (get_or_default c.args.rows k x None h) (each_at c.requires.1.each (omega arith) k))) in search rules),
+          (λ x q k. search (rules, tests))
+          (λ x k h e. let pre : Stands c.args.words.now × Row x = (c.requires.0, rw e (rw (get_or_default c.args.rows k x None h) (each_at c.requires.1.each (omega arith) k))) in search rules),
     ),
   ),
 )
