@@ -70,13 +70,14 @@ sub declarations_of {
     return @found;
 }
 
-# The items of source text: public or not, fn or another kind, name, promise and body.
+# The items of source text: public or not, fn or another kind, name, promise and body. A method goes by its own name, as if it stood outside its `impl`.
 sub functions_of_source {
     my ($text) = @_;
     my (@found, $inside);
     my $signs = '';
     $text =~ s{//.*$}{}mg;
     $text =~ s/^(?:pub )?(?:ghost )?use\s[^;]*;[ \t]*$//mg;
+    $text =~ s{^impl\b[^\n]*\{\n(.*?)^\}$}{ $1 =~ s/^ {4}//mgr }gmse;
     for my $line (split /\n/, $text) {
         next if $line =~ /^(?:pub )?mod\s|^#!\[/ || $line !~ /\S/;
         if ($line =~ /^#\[/) { $signs .= "$line "; next }
