@@ -20,8 +20,7 @@ use Rattle.goals.specs.declared.Walk.{Walk}
 use Rattle.goals.specs.Goals.{place_row, blank, room_of, stop_of, walked}
 use Rattle.walk.proofs.Ends.{Ends}
 use Rattle.walk.proofs.Wholes.{whole_ends}
-use Rattle.walk_told.specs.declared.Arrival.{Arrival}
-use Rattle.walk_told.specs.declared.Arrival.TheVariants.{Node, Refused}
+use Rattle.std.specs.Prelude.{Result, Ok, Err}
 use Rattle.walk_told.specs.Arrivals.{goal_size, place_size, most_elements, walking, arrival_of, place_numbers, end_numbers, goal_numbers, Arrives, place_words, end_place, goal_words, arrival_at}
 
 -- PLACES
@@ -60,18 +59,18 @@ arrival_same (refused n) e = refl
 arrival_same (granted g) e = go g.end refl
   where
     go : (x : Option model_tables.Place) → g.end ≡ x → arrival_at (stop_of x g.node) ≡ arrival_of (granted g)
-    go none q = ap Node (sym (e.root q))
+    go none q = ap (λ (n : ℕ). Ok n) (sym (e.root q))
     go (some p) q = refl
 
 -- THE TESTS BEFORE THE WALK
 
 -- a refusal is told as its number, and the goal is zeros
-refused_arrives : {o : Outcome Goal} {n : ℕ} → o ≡ refused n → Arrives o (Refused n) (replicate goal_size 0)
+refused_arrives : {o : Outcome Goal} {n : ℕ} → o ≡ refused n → Arrives o (Err n) (replicate goal_size 0)
 unfolding arrival_of goal_numbers
 refused_arrives e = rw e (record { answer = refl; numbers = refl })
 
 module _ (w path : List ℕ) (follow_last : Bool) {sounds : Bool} (tested : sounds ≡ sound w) where
-  pub unsound_arrives : not sounds ≡ true → Arrives (walking w path follow_last) (Refused 1) (replicate goal_size 0)
+  pub unsound_arrives : not sounds ≡ true → Arrives (walking w path follow_last) (Err 1) (replicate goal_size 0)
   unfolding walking ◌>>◌
   unsound_arrives h = let s : sound w ≡ false = sym tested ∙ not_true sounds h in refused_arrives (rw s)
 
@@ -79,7 +78,7 @@ module _ (w path : List ℕ) (follow_last : Bool) {sounds : Bool} (tested : soun
     pub sounds_right : sound w ≡ true
     sounds_right = sym tested ∙ not_false sounds right
 
-    pub invalid_arrives : not valid ≡ true → Arrives (walking w path follow_last) (Refused 3) (replicate goal_size 0)
+    pub invalid_arrives : not valid ≡ true → Arrives (walking w path follow_last) (Err 3) (replicate goal_size 0)
     unfolding walking ◌>>◌
     invalid_arrives h =
         let v : valid_path path ≡ false = sym parted ∙ not_true valid h in
@@ -89,7 +88,7 @@ module _ (w path : List ℕ) (follow_last : Bool) {sounds : Bool} (tested : soun
     unfolding walking ◌>>◌
     goes_on h = let v : valid_path path ≡ true = sym parted ∙ not_false valid h in rw (sounds_right, v)
 
-    pub walk_arrives : not valid ≡ false → {x : Walk} {r : Arrival} {goal : List ℕ} → x ≡ walked (walk (unpack w).entries (unpack w).nodes follow_last path)
+    pub walk_arrives : not valid ≡ false → {x : Walk} {r : Result ℕ ℕ} {goal : List ℕ} → x ≡ walked (walk (unpack w).entries (unpack w).nodes follow_last path)
         → goal ≡ goal_words x → r ≡ arrival_at x.stop → Arrives (walking w path follow_last) r goal
     walk_arrives h {x} e f g =
         let o = goes_on h in

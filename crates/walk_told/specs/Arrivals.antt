@@ -1,5 +1,5 @@
 -- A path walked over any words, and the walk's goal as numbers: for those who ask where a path leads and make no call. Assumes nothing.
-use Rattle.std.specs.Prelude.{◌≡◌, Bool, not, List, ◌∷◌, ◌++◌, ℕ, ◌-◌, ◌*◌, length, replicate}
+use Rattle.std.specs.Prelude.{◌≡◌, Bool, not, Result, Ok, Err, List, ◌∷◌, ◌++◌, ℕ, ◌-◌, ◌*◌, length, replicate}
 use Rattle.std.proofs.Math.Option.{Option, none, some}
 use Rattle.model.specs.Lists.{joined}
 use Rattle.model.specs.Refusals.{Outcome, refused, granted, ◌when◌, ◌>>◌}
@@ -14,8 +14,6 @@ use Rattle.goals.specs.declared.Stop.{Stop}
 use Rattle.goals.specs.declared.Stop.TheVariants as stop_cases
 use Rattle.goals.specs.declared.Walk.{Walk}
 use Rattle.goals.specs.Goals.{blank}
-use Rattle.walk_told.specs.declared.Arrival.{Arrival}
-use Rattle.walk_told.specs.declared.Arrival.TheVariants.{Node, Refused}
 
 -- Numbers given back: the tables are tested first, then the path, and then comes what the walk itself refuses
 unfoldable pub walking : List ℕ → List ℕ → Bool → Outcome Goal
@@ -43,9 +41,9 @@ elements_at = 6
 -- BY THE MODEL
 
 -- refused, or the node at the end, 0 for an absence
-unfoldable pub arrival_of : Outcome Goal → Arrival
-arrival_of (refused n) = Refused n
-arrival_of (granted g) = Node g.node
+unfoldable pub arrival_of : Outcome Goal → Result ℕ ℕ
+arrival_of (refused n) = Err n
+arrival_of (granted g) = Ok g.node
 
 unfoldable pub place_numbers : model_tables.Place → List ℕ
 place_numbers q = q.directory ∷ pack_name q.name
@@ -62,7 +60,7 @@ goal_numbers (granted g) =
     length g.elements ∷ (end_numbers g.end ++ (joined place_numbers g.elements ++ replicate ((most_elements - length g.elements) * place_size) 0))
 
 -- a walk that comes to o is answered r and leaves these numbers
-pub record Arrives (o : Outcome Goal) (r : Arrival) (goal : List ℕ) : Type 0 where
+pub record Arrives (o : Outcome Goal) (r : Result ℕ ℕ) (goal : List ℕ) : Type 0 where
   pub answer : r ≡ arrival_of o
   pub numbers : goal ≡ goal_numbers o
 
@@ -80,7 +78,7 @@ end_place (stop_cases.Entry q node) = q
 unfoldable pub goal_words : Walk → List ℕ
 goal_words x = x.count ∷ (place_words (end_place x.stop) ++ joined place_words x.elements)
 
-unfoldable pub arrival_at : Stop → Arrival
-arrival_at (stop_cases.Refused n) = Refused n
-arrival_at stop_cases.Root = Node 1
-arrival_at (stop_cases.Entry q node) = Node node
+unfoldable pub arrival_at : Stop → Result ℕ ℕ
+arrival_at (stop_cases.Refused n) = Err n
+arrival_at stop_cases.Root = Ok 1
+arrival_at (stop_cases.Entry q node) = Ok node

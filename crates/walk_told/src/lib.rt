@@ -6,10 +6,10 @@ ghost use Rattle.model.specs.Lists.{joined};
 ghost use Rattle.walk_told.specs.Arrivals.{walking, Arrives, goal_size, place_size, most_elements, elements_at, place_words, end_place, goal_words, arrival_at};
 
 use goals::{Place, Stop, Walk};
-use index::BUCKETS;
+use index::Index;
 use model::{BAD_PATH, UNSOUND};
 use paths::valid_path;
-use rows::{Block, ENTRY_ROWS, ROOT};
+use rows::{Block, ROOT};
 use soundness::sound_and_index;
 use walk::walk;
 
@@ -24,33 +24,25 @@ const MOST_ELEMENTS: usize = 8;
 // The words of a place: its directory and its name block.
 const PLACE_WORDS: usize = 5;
 
-// The node that a path leads to, 0 for an absence; or refused with 1, 3, 7, 8 or 9.
-#[derive(Clone, Copy)]
-pub enum Arrival {
-    Node(u16),
-    Refused(u8),
-}
-
-// Walks the path. The goal is how many elements there are, the end entry and the elements, each as its directory and name block; zeros in the
-// room that is left, and for a refusal.
+// Walks the path, to the node that it leads to, 0 for an absence; or refused with 1, 3, 7, 8 or 9. The goal is how many elements there are, the
+// end entry and the elements, each as its directory and name block; zeros in the room that is left, and for a refusal.
 pub fn walk_to(
     words: &[u32],
     path: &[u8],
     follow_last: bool,
     goal: &mut [u32; GOAL_WORDS],
-) -> Arrival
+) -> Result<u16, u8>
     ensures { Arrives (walking words.now path.now follow_last) result goal.new }
 {
     *goal = [0; GOAL_WORDS];
-    let mut heads = [0u16; BUCKETS];
-    let mut next = [0u16; ENTRY_ROWS];
-    if !sound_and_index(words, &mut heads, &mut next) {
-        return Arrival::Refused(UNSOUND);
+    let mut index = Index::new();
+    if !sound_and_index(words, &mut index) {
+        return Err(UNSOUND);
     }
     if !valid_path(path) {
-        return Arrival::Refused(BAD_PATH);
+        return Err(BAD_PATH);
     }
-    let walked = walk(words, &heads, &next, path, follow_last);
+    let walked = walk(words, &index, path, follow_last);
     put_goal(goal, walked);
     arrival_at(walked.stop)
 }
@@ -97,12 +89,12 @@ fn end_place(stop: Stop) -> Place
     }
 }
 
-fn arrival_at(stop: Stop) -> Arrival
+fn arrival_at(stop: Stop) -> Result<u16, u8>
     ensures { result ≡ arrival_at stop }
 {
     match stop {
-        Stop::Refused(number) => Arrival::Refused(number),
-        Stop::Root => Arrival::Node(ROOT),
-        Stop::Entry { node, .. } => Arrival::Node(node),
+        Stop::Refused(number) => Err(number),
+        Stop::Root => Ok(ROOT),
+        Stop::Entry { node, .. } => Ok(node),
     }
 }
