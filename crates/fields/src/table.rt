@@ -4,6 +4,7 @@ ghost use Rattle.model.specs.Records.{keeps_entries, row_of};
 ghost use Rattle.fields.specs.Rows.{coded_row, is_call};
 
 // The class of a call; `Unknown` is for a number that is no call's.
+// stays: no Option, since the clause of `row_of` gives every number a row, as the model's table does.
 #[derive(Clone, Copy)]
 pub enum Class {
     Unknown,

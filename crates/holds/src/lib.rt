@@ -34,7 +34,10 @@ fn end_of(walk: Walk) -> Option<Place>
     }
 }
 
+// THE TESTS OF ONE HOLD. They stay out of the loops that ask them, which then compare little but directories: inlined, they make a loop take twice as long.
+
 // Whether the hold of a row is of another user than this.
+#[inline(never)]
 fn is_of_another(words: &[u32], row: usize, user: u16) -> bool
     requires { (Stands words.now) × (row < hold_rows) }
     ensures { result ≡ of_another (unpack words.now).processes user (hold_row words.now row) }
@@ -43,6 +46,7 @@ fn is_of_another(words: &[u32], row: usize, user: u16) -> bool
 }
 
 // Whether another user has the hold of a row on the place, as its end or as an element. The place is asked first: of the rows that are in use, few are on it.
+#[inline(never)]
 fn is_held(words: &[u32], row: usize, place: Place, user: u16) -> bool
     requires { (Stands words.now) × ((row < hold_rows) × (PlaceNamed place)) }
     ensures { result ≡ holds_on (unpack words.now).processes place user (hold_row words.now row) }
@@ -51,6 +55,7 @@ fn is_held(words: &[u32], row: usize, place: Place, user: u16) -> bool
 }
 
 // Whether another user has it as the end.
+#[inline(never)]
 fn ends_at(words: &[u32], row: usize, place: Place, user: u16) -> bool
     requires { (Stands words.now) × ((row < hold_rows) × (PlaceNamed place)) }
     ensures { result ≡ ends_on (unpack words.now).processes place user (hold_row words.now row) }

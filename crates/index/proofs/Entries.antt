@@ -143,16 +143,6 @@ found_place w q {row} e =
     let here : row_found w q - 1 ≡ row = omega arith in
     same_place_equal (entry_row w row).place q (rw here at (last_passes (row_at w q) entry_rows (λ z. omega arith)))
 
--- the node of a row that is told so
-pub node_in_none : (w : List ℕ) (found : ℕ) → found ≡ 0 → 0 ≡ node_in w found
-unfolding node_in
-node_in_none w found z = rw z
-
-pub node_in_row : (w : List ℕ) (found : ℕ) → (found ≡ 0 → ⊥) → (entry_row w (found - 1)).node ≡ node_in w found
-unfolding node_in
-node_in_row w zero n = absurd (n refl)
-node_in_row w (suc row) n = let here : suc row - 1 ≡ row = omega arith in ap (λ r. (entry_row w r).node) here
-
 -- none is found where the place is absent
 pub found_none : (w : List ℕ) (q : Place) → row_found w q ≡ 0 → 0 ≡ lookup (unpack w).entries q
 unfolding row_found lookup

@@ -64,6 +64,7 @@ impl<const SIZE: usize, const ROWS: usize> Links<SIZE, ROWS> {
 }
 
 // The index of the entries.
+// stays: it goes beside the words, a lent &[u32] by document 01 (rule of the project), so that its fact is one of both and of no type alone.
 pub type Index = Links<BUCKETS, ENTRY_ROWS>;
 
 // Whether the used entries differ in directory and name; and where they do, their index.

@@ -46,6 +46,7 @@ module _ {A : Type 0} (t : A → Bool) (d : A) where
     where
       rest : List ℕ
       rest = filter h (range_with_len (a + 1) (length xs))
+
       go : (b : Bool) → length rest ≡ count t xs → length (cond b (a ∷ rest) rest) ≡ elim b as (λ _. ℕ) [ true ↦ suc (count t xs) | false ↦ count t xs ]
       go true i = ap suc i
       go false i = i
@@ -71,10 +72,10 @@ module _ {A : Type 0} (t : A → Bool) (d : A) where
         → r ≡ cond (ltb (first t 0 rows) (length rows)) (Some (first t 0 rows)) None
     find_gives u {f} r ran says =
         told r (first_from_Range s u f r (λ k. t (get_or rows k d) ≡ true) (λ k. t (get_or rows k d) ≡ false) ran
-            (λ x q h. sym (says x true q h).1) (λ x q h. ((says x false q h).0, sym (says x false q h).1)))
+        (λ x q h. sym (says x true q h).1) (λ x q h. ((says x false q h).0, sym (says x false q h).1)))
       where
         told : (r : Option ℕ) → MatchOption r ((k : ℕ) → s.start ≤ k → k < s.end → t (get_or rows k d) ≡ false)
-                (λ i. (s.start ≤ i) × (i < s.end) × (t (get_or rows i d) ≡ true) × ((k : ℕ) → s.start ≤ k → k < i → t (get_or rows k d) ≡ false))
+            (λ i. (s.start ≤ i) × (i < s.end) × (t (get_or rows i d) ≡ true) × ((k : ℕ) → s.start ≤ k → k < i → t (get_or rows k d) ≡ false))
             → r ≡ cond (ltb (first t 0 rows) (length rows)) (Some (first t 0 rows)) None
         told None h =
             let k : first t 0 rows ≡ length rows = first_is rows (length rows) (omega arith) (λ k l. h k (omega arith) (omega arith)) (λ l. absurd (omega arith)) in
@@ -86,7 +87,7 @@ module _ {A : Type 0} (t : A → Bool) (d : A) where
     -- `any` tells whether a row passes
     pub any_gives : {g : Mut F (ℕ × Unit {0}) Bool} (u : Range ℕ) {f : F} (r : Bool)
         → (xs : List ℕ) × (o : Option ℕ) × (j : F) × YieldsThen nat_range_steps s xs o u × FoldsTo (λ p x q. Called g p (x, tt) false q) f xs j
-            × MatchOption o (r ≡ false) (λ x. (r ≡ true) × ((h : F) × Called g j (x, tt) true h))
+        × MatchOption o (r ≡ false) (λ x. (r ≡ true) × ((h : F) × Called g j (x, tt) true h))
         → ((x : ℕ) (b : Bool) (q : F) → Called g f (x, tt) b q → (q ≡ f) × (b ≡ t (get_or rows x d)))
         → r ≡ any t rows
     any_gives u {f} r ran says =
@@ -100,6 +101,6 @@ module _ {A : Type 0} (t : A → Bool) (d : A) where
         → r ≡ count t rows
     count_gives {g} {m} r source callee ran says =
         count_from_yields_List m r ran
-            (YieldsList-from_filter g (λ x. t (get_or rows x d))
-            (YieldsList-at source (YieldsList-from_range s.start s.end (length rows) refl (omega arith))) callee says)
+        (YieldsList-from_filter g (λ x. t (get_or rows x d))
+        (YieldsList-at source (YieldsList-from_range s.start s.end (length rows) refl (omega arith))) callee says)
         ∙ count_numbered (λ x. t (get_or rows x d)) s.start rows (λ k l. ap (λ n. t (get_or rows n d)) (omega arith))

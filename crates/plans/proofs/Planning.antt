@@ -13,7 +13,7 @@ use Rattle.std.specs.Prelude.{Some, None}
 use lib.ListN.{length, get_or, set, take, drop, length-append, length-take, length-map, drop_of_length-le}
 use lib.Seq.{take_all, take-suc}
 use Rattle.arrayvec.specs.ArrayVec.{array_vec_len}
-use Rattle.model.specs.Lists.{filled, any, count, put, put_all}
+use Rattle.model.specs.Lists.{same, filled, any, count, put, put_all}
 use Rattle.model.specs.Tables as model_tables
 use Rattle.model.specs.Tables.{Tables, Hold, free_hold, end_role, element_role, same_place, with_holds}
 use Rattle.model.specs.Sound.{same_hold}
@@ -23,11 +23,12 @@ use Rattle.laws.proofs.Bools.{or_right, neither}
 use Rattle.laws.proofs.Each.{Each, none as no_row, one, each_append, each_head, each_tail, each_at, each_take}
 use Rattle.laws.proofs.Loops.{rest_at}
 use Rattle.laws.proofs.Members.{each_in, at_in}
+use Rattle.laws.proofs.Pieces.{same_self}
 use Rattle.rows.specs.declared.HoldRow.{HoldRow}
-use Rattle.rows.specs.Blocks.{Named, name_of, place_of}
+use Rattle.rows.specs.Blocks.{Named, same_block, name_of, place_of}
 use Rattle.rows.specs.Rows.{hold_of}
 use Rattle.rows.specs.Stands.{Stands, Becomes}
-use Rattle.rows.proofs.Blocks.{same_blocks_same_names}
+use Rattle.rows.proofs.Blocks.{same_block_is, same_blocks_same_names}
 use Rattle.search.specs.Rows.{first_row}
 use Rattle.search.proofs.Rows.{put_found, put_missing}
 use Rattle.edits.proofs.Written.{good_hold}
@@ -202,6 +203,36 @@ element_used w u i h = each_in u.elements (at_in (take w.count w.elements) i bla
 pub end_used : (w : Walk) → WalkUsed w → {q : Place} {k : ℕ} → w.stop ≡ Entry q k → PlaceUsed q
 unfolding StopUsed
 end_used w u e = subst StopUsed e u.stop
+
+-- ONE PLAN ALONE is for given holds: a row that may be written is known by its hold
+
+one_row : (a b : HoldRow) → Fine a → Fine b → hold_of a ≡ hold_of b → a ≡ b
+unfolding hold_of place_of
+one_row a b f g e =
+    let names : name_of a.name ≡ name_of b.name = ap (λ (h : Hold). h.place.name) e in
+    let same_name : same_block a.name b.name ≡ true
+    = same_blocks_same_names a.name b.name f.name g.name ∙ ap (λ n. same n (name_of b.name)) names ∙ same_self (name_of b.name) in
+    let directory : a.directory ≡ b.directory = ap (λ (h : Hold). h.place.directory) e in
+    let process : a.process ≡ b.process = ap (λ (h : Hold). h.process) e in
+    let role : a.role ≡ b.role = ap (λ (h : Hold). h.role) e in
+    λ i. record { directory = directory i; process = process i; name = same_block_is a.name b.name same_name i; role = role i }
+
+one_list : (xs ys : List HoldRow) → Each Fine xs → Each Fine ys → map hold_of xs ≡ map hold_of ys → xs ≡ ys
+one_list [] [] f g e = refl
+one_list [] (y ∷ ys) f g e = cc
+one_list (x ∷ xs) [] f g e = cc
+one_list (x ∷ xs) (y ∷ ys) f g e =
+    let heads : hold_of x ≡ hold_of y = cc in
+    let tails : map hold_of xs ≡ map hold_of ys = cc in
+    let head = one_row x y (each_head f) (each_head g) heads in
+    let tail = one_list xs ys (each_tail f) (each_tail g) tails in
+    ap (λ z. z ∷ xs) head ∙ ap (λ l. y ∷ l) tail
+
+pub one_plan : {have wants : List Hold} {p q : Plan} → PlanFor have wants p → PlanFor have wants q → p ≡ q
+unfolding planned_holds
+one_plan {p = p} {q = q} a b =
+    let items : p.items ≡ q.items = one_list p.items q.items a.planned.fine b.planned.fine (a.is ∙ sym b.is) in
+    ap (λ (l : List HoldRow). record { items = l }) items
 
 -- ADDING
 

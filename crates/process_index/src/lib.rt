@@ -15,6 +15,7 @@ use rows::{PROCESS_ROWS, process_number, process_user};
 pub const PROCESS_BUCKETS: usize = 127;
 
 // The index of the processes.
+// stays: it goes beside the words, a lent &[u32] by document 01 (rule of the project), so that its fact is one of both and of no type alone.
 pub type ProcessIndex = Links<PROCESS_BUCKETS, PROCESS_ROWS>;
 
 // Whether the listed processes differ in number; and where they do, their index.

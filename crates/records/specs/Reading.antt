@@ -3,7 +3,7 @@ use Rattle.std.specs.Prelude.{Bool, false, List, ℕ, ◌+◌, eqb, length, take
 use Rattle.model.specs.Refusals.{Outcome, refused, granted}
 use Rattle.model.specs.Records as model
 use Rattle.model.specs.Records.{taken}
-use Rattle.records.specs.declared.Part.{Part}
+pub use Rattle.paths.specs.declared.Part.{Part}
 use Rattle.records.specs.declared.Fields.{Fields}
 use Rattle.records.specs.declared.Accepted.{Accepted}
 use Rattle.records.specs.declared.Rejected.{Rejected}

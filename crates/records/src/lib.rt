@@ -9,15 +9,9 @@ ghost use Rattle.records.specs.Packing.{called, Packs};
 use fields::Numbers;
 use heads::HEAD_LENGTH;
 use model::{SHORT_DESTINATION, SHORT_RECORD};
+pub use paths::Part;
 
-// Where a path stands in a record.
-#[derive(Clone, Copy)]
-pub struct Part {
-    pub start: usize,
-    pub length: usize,
-}
-
-// The fields of a record.
+// The fields of a record, and where its paths stand in it.
 #[derive(Clone, Copy)]
 pub struct Fields {
     pub call: u32,

@@ -64,7 +64,7 @@ module _ (entries : List Entry) (nodes : List Node) (n : ℕ) where
     where
       go : (none_there its_directory : Bool)
           → ◌≡◌ {A = Result (Unit {0}) ℕ}
-              (elim none_there as (λ _. Result (Unit {0}) ℕ) [ true ↦ Err 8 | false ↦ elim its_directory as (λ _. Result (Unit {0}) ℕ) [ true ↦ Ok tt | false ↦ Err 9 ] ]) (Err m)
+          (elim none_there as (λ _. Result (Unit {0}) ℕ) [ true ↦ Err 8 | false ↦ elim its_directory as (λ _. Result (Unit {0}) ℕ) [ true ↦ Ok tt | false ↦ Err 9 ] ]) (Err m)
           → elim none_there as (λ _. Outcome Goal) [
             | true ↦ refused 8
             | false ↦ elim its_directory as (λ _. Outcome Goal) [ true ↦ walk_within entries nodes follow_last k n rest | false ↦ refused 9 ]
@@ -80,7 +80,7 @@ module _ (entries : List Entry) (nodes : List Node) (n : ℕ) where
     where
       go : (none_there its_directory : Bool)
           → ◌≡◌ {A = Result (Unit {0}) ℕ}
-              (elim none_there as (λ _. Result (Unit {0}) ℕ) [ true ↦ Err 8 | false ↦ elim its_directory as (λ _. Result (Unit {0}) ℕ) [ true ↦ Ok tt | false ↦ Err 9 ] ]) (Ok tt)
+          (elim none_there as (λ _. Result (Unit {0}) ℕ) [ true ↦ Err 8 | false ↦ elim its_directory as (λ _. Result (Unit {0}) ℕ) [ true ↦ Ok tt | false ↦ Err 9 ] ]) (Ok tt)
           → its_directory ≡ true
       go true d e = let z : ◌≡◌ {A = ℕ} 0 1 = cc in absurd (omega arith)
       go false true e = refl
