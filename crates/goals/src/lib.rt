@@ -32,6 +32,7 @@ pub struct Walk {
 }
 
 // The node where a walk stopped, 0 for a refusal.
+#[tactic(auto, unfolding(crate::specs::Goals::node_at_end))]
 pub fn node_at_end(stop: Stop) -> u16
     ensures { result ≡ node_at_end stop }
 {
@@ -42,12 +43,14 @@ pub fn node_at_end(stop: Stop) -> u16
     }
 }
 
+#[tactic(auto, unfolding(crate::specs::Goals::goal_of))]
 pub fn node_of(walk: Walk) -> u16
     ensures { result ≡ (goal_of walk).node }
 {
     node_at_end(walk.stop)
 }
 
+#[tactic(auto, unfolding(model::specs::Calls::absent))]
 pub fn is_absent(walk: Walk) -> bool
     ensures { result ≡ absent (goal_of walk) }
 {

@@ -6,8 +6,7 @@ use mathlib.Core.Logic.{◌≢◌, ◌⊎◌, inl, inr}
 use mathlib.Core.List.{List, [], ◌∷◌, append-nil}
 use Prim.Native.Nat.{ℕ, zero, suc, ◌+◌}
 use native.Mathlib.Omega.{arith}
-use borrow.Author.Tests.{ne_eqb}
-use Rattle.std.specs.Prelude.{Option, Some, None, Ok, Err}
+use Rattle.std.specs.Prelude.{Option, Some, None, Ok}
 use Rattle.model.specs.Refusals.{Outcome, refused}
 use Rattle.model.specs.Paths.{Name, names}
 use Rattle.model.specs.Tables as model_tables
@@ -15,7 +14,7 @@ use Rattle.model.specs.Tables.{Node, a_directory, a_link, node_at, lookup}
 use Rattle.model.specs.Walk.{Goal, Found, link, found, Trip, here, astray, past, after_link, start, follow, turn, trip_names}
 use Rattle.goals.specs.Goals.{place_row}
 use Rattle.walk.specs.declared.Trail.{Trail}
-use Rattle.walk.specs.Trails.{end_row, trail_after, continued, by_kind, walk_within}
+use Rattle.walk.specs.Trails.{end_row, trail_after, continued, walk_within}
 use Rattle.walk.proofs.Found.{Walkable, Stood, absent, of_file, of_directory, of_link, found_stood, numbered}
 use Rattle.walk.proofs.Legs.{jump_within, within_names}
 
@@ -79,20 +78,6 @@ module _ (row : model_tables.Place → Option ℕ) (t : Trail) where
   stopped_by_slash entries nodes follow_last k ns none_left =
       (λ i. Ok (record { end = None; trail = record { node = t.node; count = same_count i; rows = t.rows } }))
       ∙ ap (λ (x : Trip). continued row t x.outcome) (sym (within_names entries nodes follow_last k t.node [])) ∙ rw none_left
-
--- GOING ON, by the kind of the node
-
-pub is_missing : {kind : ℕ} → kind ≡ 0 → Err 8 ≡ by_kind kind
-unfolding by_kind
-is_missing e = rw e
-
-pub is_a_directory : {kind : ℕ} → kind ≡ a_directory → Ok tt ≡ by_kind kind
-unfolding by_kind
-is_a_directory e = rw e
-
-pub is_no_directory : {kind : ℕ} → (kind ≡ 0 → ⊥) → (kind ≡ a_directory → ⊥) → Err 9 ≡ by_kind kind
-unfolding by_kind
-is_no_directory {kind} k d = sym (simp (ne_eqb kind 0 k, ne_eqb kind a_directory d, by_kind))
 
 -- FOLLOWING
 

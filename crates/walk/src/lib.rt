@@ -86,6 +86,7 @@ fn walk_names(
     requires valid { valid_names path.now ≡ true }
     ensures { result ≡ walked_from words.now follow_last from (names path.now) }
 {
+    // stays: no plainer: whether a name is the last is asked of where it ends, so an iterator of names would be told its position all the same.
     let mut at = 0;
     let mut trail = from;
     while let Some(Part { start, length }) = next_name(path, at) {
@@ -104,6 +105,7 @@ fn walk_names(
 }
 
 // A link is followed where names come behind it, and at the last name where the call does so.
+#[tactic(auto, unfolding(crate::specs::Trails::followed))]
 fn is_followed(is_last: bool, follow_last: bool) -> bool
     ensures { result ≡ followed is_last follow_last }
 {
@@ -163,6 +165,7 @@ fn follow_link(
 }
 
 // Where a walk has to go on, something has to be there, and that a directory.
+#[tactic(auto, unfolding(crate::specs::Trails::by_kind))]
 fn only_directory(words: &[u32], node: u16) -> Result<(), u8>
     requires { Stands words.now }
     ensures { result ≡ only_directory (unpack words.now).nodes node }

@@ -45,9 +45,6 @@ rest_joined [] k h = absurd (omega arith)
 rest_joined (q ∷ qs) zero h = refl
 rest_joined (q ∷ qs) (suc k) h = rest_joined qs k (omega arith)
 
-pub places_start : (out : List ℕ) (qs : List Place) → sets out (elements_at + 0 * place_size) (joined place_words (drop 0 qs)) ≡ sets out elements_at (joined place_words qs)
-places_start out qs = refl
-
 pub places_onward : (out : List ℕ) (qs : List Place) (k : ℕ) {v u : List ℕ} → k < length qs
     → u ≡ sets out (elements_at + k * place_size) (place_words (get_or qs k blank)) → sets out (elements_at + k * place_size) (joined place_words (drop k qs)) ≡ v
     → sets u (elements_at + (k + 1) * place_size) (joined place_words (drop (k + 1) qs)) ≡ v

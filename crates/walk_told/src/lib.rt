@@ -52,6 +52,7 @@ fn put_goal(goal: &mut [u32; GOAL_WORDS], walk: Walk)
     requires { (goal.old ≡ replicate goal_size 0) × ((walk.count ≤ most_elements) × (length walk.elements ≡ most_elements)) }
     ensures { goal.new ≡ goal_words walk }
 {
+    // stays: no plainer: the count is at most 8 by contract, and u32::try_from gives a Result whose Err never comes.
     goal[0] = walk.count as u32;
     put_place(goal, END_AT, end_place(walk.stop));
     put_elements(goal, walk.elements);
@@ -89,6 +90,7 @@ fn end_place(stop: Stop) -> Place
     }
 }
 
+#[tactic(auto, unfolding(crate::specs::Arrivals::arrival_at))]
 fn arrival_at(stop: Stop) -> Result<u16, u8>
     ensures { result ≡ arrival_at stop }
 {

@@ -1,5 +1,5 @@
 -- Walking names, resolving one and following a link: each returns the model's walk of what is left. Assumes nothing.
-use mathlib.Core.Path.{◌≡◌, refl, sym, ap, subst, ◌∙◌}
+use mathlib.Core.Path.{◌≡◌, sym, ap, subst, ◌∙◌}
 use mathlib.Core.Bool.{Bool, true, false}
 use mathlib.Core.Logic.{inl, inr, ◌⊎◌, ◌≢◌}
 use mathlib.Core.List.{List, [], ◌∷◌}
@@ -98,9 +98,6 @@ resolve-find_entry-found-requires t c =
     let ready = c.requires.ready in
     (ready.indexed, (c.requires.named, in_no_directory ready))
 
-pub resolve-node_found-node-requires : goal.resolve-node_found-node-requires
-resolve-node_found-node-requires t c = (c.requires.ready.indexed.stands, c.find_entry-found.ensures.1)
-
 pub resolve-returns-in-Some : goal.resolve-returns-in-Some
 resolve-returns-in-Some t c =
     let w = c.args.words.now in
@@ -133,9 +130,6 @@ resolved : {w path : List ℕ} {follow_last : Bool} {at : ℕ} {trail : Trail} {
     {b : Block} → b ≡ block_of (take size (drop start path)) → {follow : Bool} → follow ≡ followed (eqb (start + size) (length path)) follow_last →
     met ≡ walked_from w follow trail (name_of b ∷ []) → Met w path follow_last at trail start size met
 resolved n {b} made {follow} asked is = record { name = n; block = b; made = made; follow = follow; asked = asked; is = is }
-
-pub walk_names-loop-start-init : goal.walk_names-loop-start-init
-walk_names-loop-start-init t c = record { ready = c.requires.ready; valid = c.requires.valid; more = omega arith; same = refl }
 
 pub walk_names-returns : goal.walk_names-returns
 walk_names-returns t c = stops_by_slash c.loop-start.invariant (next_ends c.args.path.now c.loop-start.at (sym c.next_name.ensures ∙ c.in_default.is))

