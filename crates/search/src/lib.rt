@@ -120,6 +120,7 @@ pub fn free_hold_rows(words: &[u32]) -> usize
 }
 
 // THE LOWEST FREE ROW of each table, if one is free
+// stays: four searches of one line each, over their own field and their own table's clause; one generic would take both as ghosts, which is no plainer.
 
 pub fn free_entry_row(words: &[u32]) -> Option<usize>
     requires { Stands words.now }
