@@ -36,6 +36,7 @@ use Rattle.records.specs.declared.Fields.{Fields}
 use Rattle.records.specs.Reading.{part_of}
 use Rattle.plans.specs.Plans.{PlaceUsed, StopUsed, WalkUsed}
 use Rattle.edits.specs.Counts.{Countable}
+use Rattle.index.specs.Indexed.{Index}
 use Rattle.reaching.specs.Ready.{Ready, PathIn, Walks}
 use Rattle.reaching.proofs.Accepting.{part_bytes, path1_in}
 
@@ -114,7 +115,7 @@ pub record Leading (w : List ℕ) (o : Outcome Goal) : Type 0 where
   pub fits : OutcomeFits o
   pub arrives : (g : Goal) → o ≡ granted g → Arrived Valid (unpack w).entries (unpack w).nodes g
 
-module _ {w heads next s : List ℕ} {f : Fields} (ready : Ready w heads next s f) (follow_last : Bool) where
+module _ {w s : List ℕ} {x : Index} {f : Fields} (ready : Ready w x s f) (follow_last : Bool) where
   -- `at`: the part is a path
   pub path_leads : (p : Part) → PathIn s p → Leading w (walk (unpack w).entries (unpack w).nodes follow_last (part_of s p))
   path_leads p at =
