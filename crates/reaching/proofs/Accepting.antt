@@ -18,11 +18,10 @@ use Rattle.invariants.proofs.Accepted.{well_formed_same, valid_target_short, fie
 use Rattle.invariants.proofs.Order.{Proper, process_there, child_there, path1_valid, path2_valid, target_valid}
 use Rattle.invariants.proofs.Records.{Whole, whole}
 use Rattle.invariants.proofs.Served.{fields_proper}
-use Rattle.records.specs.declared.Part.{Part}
 use Rattle.records.specs.declared.Fields.{Fields}
 use Rattle.std.specs.Prelude.{Ok}
 use Rattle.records.specs.declared.Accepted.{Accepted}
-use Rattle.records.specs.Reading.{Reading, fields_of, answered, reading, part_of, outcome_of}
+use Rattle.records.specs.Reading.{Part, Reading, fields_of, answered, reading, part_of, outcome_of}
 use Rattle.records.proofs.ThereAndBack.{reading_means}
 use Rattle.reaching.specs.Ready.{call_in, PathIn, Walks}
 

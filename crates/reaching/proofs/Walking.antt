@@ -31,9 +31,8 @@ use Rattle.rows.specs.Stands as rows
 use Rattle.goals.specs.Goals.{place_row, blank, room_of, stop_of, walked}
 use Rattle.goals.proofs.Back.{GoalFits, OutcomeFits}
 use Rattle.walk.proofs.Goals.{walk_fits}
-use Rattle.records.specs.declared.Part.{Part}
 use Rattle.records.specs.declared.Fields.{Fields}
-use Rattle.records.specs.Reading.{part_of}
+use Rattle.records.specs.Reading.{Part, part_of}
 use Rattle.plans.specs.Plans.{PlaceUsed, StopUsed, WalkUsed}
 use Rattle.edits.specs.Counts.{Countable}
 use Rattle.index.specs.Indexed.{Index}

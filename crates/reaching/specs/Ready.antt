@@ -4,9 +4,8 @@ use Rattle.model.specs.Paths.{valid_path}
 use Rattle.model.specs.Sound.{sound}
 use Rattle.model.specs.Records.{Call, known, path, row_of}
 use Rattle.laws.specs.Each.{Each, Byte}
-use Rattle.records.specs.declared.Part.{Part}
 use Rattle.records.specs.declared.Fields.{Fields}
-use Rattle.records.specs.Reading.{reading, part_of}
+use Rattle.records.specs.Reading.{Part, reading, part_of}
 use Rattle.index.specs.Indexed.{Index, Indexed}
 
 -- the call that a record's fields and bytes are
