@@ -102,10 +102,6 @@ module _ (t : Tables) (order : InOrder t) (g : Goal) (arrived : Arrived Valid t.
           let blanks = replicate (8 - length g.elements) blank in
           rw (length-append places blanks, length-map g.elements place_row, length-replicate (8 - length g.elements) blank) (omega arith)
 
-pub refusal_used : (n : ℕ) → WalkUsed (walked (refused n))
-unfolding walked StopUsed
-refusal_used n = record { stop = tt; room = refl; elements = none }
-
 -- AN OUTCOME
 
 -- an outcome that the code can hold, and whose goal stands in the tables
