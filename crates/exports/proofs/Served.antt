@@ -2,14 +2,13 @@
 use mathlib.Core.Path.{◌≡◌, refl, ap, ◌∙◌}
 use mathlib.Core.List.{List}
 use Prim.Native.Nat.{ℕ, ◌<◌}
-use native.Mathlib.Omega.{arith}
 use Rattle.model.specs.Refusals.{Outcome, refused, granted}
 use Rattle.model.specs.Answers.{number_of}
 use Rattle.model.specs.Records.{taken}
 use Rattle.model.specs.Serve.{serve, made_fresh}
 use Rattle.model.specs.declared.Verdict.{Verdict}
 use Rattle.fresh.specs.Prepared.{Prepares, answer_of}
-use Rattle.fresh.specs.declared.Prepared.TheVariants as fresh_cases
+use Rattle.std.proofs.Common.{Ok, Err}
 use Rattle.service.specs.Serves.{Serves, verdict_of}
 use Rattle.service.proofs.Demands.{taken_is}
 use Rattle.service.proofs.Verdicts.{serve_takes}
@@ -28,19 +27,19 @@ module _ {w s v : List ℕ} {r : Verdict} (serves : Serves w s r v) where
 
 -- FRESH TABLES
 
-pub ready_told : (w v : List ℕ) → Prepares w (made_fresh w) fresh_cases.Ready v → answer_number 2 0 0 ≡ fresh_number (made_fresh w)
+pub ready_told : (w v : List ℕ) → Prepares w (made_fresh w) (Ok tt) v → answer_number 2 0 0 ≡ fresh_number (made_fresh w)
 unfolding fresh_number
 ready_told w v h = go (made_fresh w) h.answer
   where
-    go : (o : Outcome (List ℕ)) → fresh_cases.Ready ≡ answer_of o → answer_number 2 0 0 ≡ fresh_number o
-    go (refused n) e = absurd (let z : ◌≡◌ {A = ℕ} 0 1 = cc in omega arith)
+    go : (o : Outcome (List ℕ)) → Ok tt ≡ answer_of o → answer_number 2 0 0 ≡ fresh_number o
+    go (refused n) e = cc
     go (granted x) e = refl
 
-pub refusal_told : (w v : List ℕ) (n : ℕ) → Prepares w (made_fresh w) (fresh_cases.Refused n) v
+pub refusal_told : (w v : List ℕ) (n : ℕ) → Prepares w (made_fresh w) (Err n) v
     → answer_number 3 n 0 ≡ fresh_number (made_fresh w)
 unfolding fresh_number
 refusal_told w v n h = go (made_fresh w) h.answer
   where
-    go : (o : Outcome (List ℕ)) → fresh_cases.Refused n ≡ answer_of o → answer_number 3 n 0 ≡ fresh_number o
+    go : (o : Outcome (List ℕ)) → Err n ≡ answer_of o → answer_number 3 n 0 ≡ fresh_number o
     go (refused k) e = let is : n ≡ k = cc in rw is
-    go (granted x) e = absurd (let z : ◌≡◌ {A = ℕ} 0 1 = cc in omega arith)
+    go (granted x) e = cc

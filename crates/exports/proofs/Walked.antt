@@ -2,25 +2,24 @@
 use mathlib.Core.Path.{◌≡◌}
 use mathlib.Core.List.{List}
 use Prim.Native.Nat.{ℕ}
-use native.Mathlib.Omega.{arith}
 use Rattle.model.specs.Refusals.{Outcome, refused, granted}
 use Rattle.model.specs.Walk.{Goal}
 use Rattle.walk_told.specs.Arrivals.{arrival_of, Arrives}
-use Rattle.walk_told.specs.declared.Arrival.TheVariants.{Node, Refused}
+use Rattle.std.proofs.Common.{Ok, Err}
 use Rattle.exports.specs.Numbers.{answer_number, walking_number}
 
-pub node_told : {o : Outcome Goal} {n : ℕ} {goal : List ℕ} → Arrives o (Node n) goal → answer_number 2 n 0 ≡ walking_number o
+pub node_told : {o : Outcome Goal} {n : ℕ} {goal : List ℕ} → Arrives o (Ok n) goal → answer_number 2 n 0 ≡ walking_number o
 unfolding walking_number arrival_of
 node_told {o} {n} h = go o h.answer
   where
-    go : (o : Outcome Goal) → Node n ≡ arrival_of o → answer_number 2 n 0 ≡ walking_number o
-    go (refused k) e = absurd (let z : ◌≡◌ {A = ℕ} 0 1 = cc in omega arith)
+    go : (o : Outcome Goal) → Ok n ≡ arrival_of o → answer_number 2 n 0 ≡ walking_number o
+    go (refused k) e = cc
     go (granted g) e = let is : n ≡ g.node = cc in rw is
 
-pub refusal_told : {o : Outcome Goal} {n : ℕ} {goal : List ℕ} → Arrives o (Refused n) goal → answer_number 3 n 0 ≡ walking_number o
+pub refusal_told : {o : Outcome Goal} {n : ℕ} {goal : List ℕ} → Arrives o (Err n) goal → answer_number 3 n 0 ≡ walking_number o
 unfolding walking_number arrival_of
 refusal_told {o} {n} h = go o h.answer
   where
-    go : (o : Outcome Goal) → Refused n ≡ arrival_of o → answer_number 3 n 0 ≡ walking_number o
+    go : (o : Outcome Goal) → Err n ≡ arrival_of o → answer_number 3 n 0 ≡ walking_number o
     go (refused k) e = let is : n ≡ k = cc in rw is
-    go (granted g) e = absurd (let z : ◌≡◌ {A = ℕ} 0 1 = cc in omega arith)
+    go (granted g) e = cc

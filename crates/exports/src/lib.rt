@@ -7,11 +7,10 @@ ghost use Rattle.exports.specs.Numbers.{field_numbers, Small, ReadsAs, PacksAs, 
 ghost use Rattle.exports.specs.Runs.{RunsAs};
 ghost use Rattle.std.specs.Prelude.{◌≡◌};
 
-use fresh::Prepared;
 use model::UNSOUND;
-use records::{Fields, Packing, Reading};
+use records::Fields;
 use runs::{DONE, REFUSED, told, told_answer};
-use walk_told::{Arrival, GOAL_WORDS};
+use walk_told::GOAL_WORDS;
 
 fn put_fields(numbers: &mut [u32; 6], fields: Fields)
     requires { Small fields }
@@ -19,9 +18,10 @@ fn put_fields(numbers: &mut [u32; 6], fields: Fields)
 {
     let path1 = fields.path1;
     let path2 = fields.path2;
+    // stays: no plainer, Rust has no `From<usize>` for u32, and the clause says that these fit.
     *numbers = [
-        fields.process as u32,
-        fields.argument as u32,
+        u32::from(fields.process),
+        u32::from(fields.argument),
         path1.start as u32,
         path1.length as u32,
         path2.start as u32,
@@ -34,17 +34,15 @@ fn put_fields(numbers: &mut [u32; 6], fields: Fields)
 pub fn tickbutton_read(bytes: &[u8], fields: &mut [u32; 6]) -> u64
     ensures { ReadsAs bytes.now result fields.new }
 {
+    // stays: no plainer, Rust has no `From<usize>` for u64, here and below.
     match records::read(bytes) {
-        Reading::Accepted {
-            fields: found,
-            taken,
-        } => {
-            put_fields(fields, found);
-            told(DONE, found.call as u64, taken as u64)
+        Ok(found) => {
+            put_fields(fields, found.fields);
+            told(DONE, u64::from(found.fields.call), found.taken as u64)
         }
-        Reading::Refused { number, taken } => {
+        Err(refusal) => {
             *fields = [0; 6];
-            told(REFUSED, number as u64, taken as u64)
+            told(REFUSED, u64::from(refusal.number), refusal.taken as u64)
         }
     }
 }
@@ -61,8 +59,8 @@ pub fn tickbutton_pack(
     ensures { PacksAs (called call process argument path1.now path2.now) destination.old result destination.new }
 {
     match records::pack(call, process, argument, path1, path2, destination) {
-        Packing::Length(length) => told(DONE, length as u64, 0),
-        Packing::Refused(number) => told(REFUSED, number as u64, 0),
+        Ok(length) => told(DONE, length as u64, 0),
+        Err(number) => told(REFUSED, u64::from(number), 0),
     }
 }
 
@@ -71,8 +69,8 @@ pub fn tickbutton_fresh(words: &mut [u32]) -> u64
     ensures { MakesFresh words.old result words.new }
 {
     match fresh::fresh(words) {
-        Prepared::Ready => told(DONE, 0, 0),
-        Prepared::Refused(number) => told(REFUSED, number as u64, 0),
+        Ok(()) => told(DONE, 0, 0),
+        Err(number) => told(REFUSED, u64::from(number), 0),
     }
 }
 
@@ -81,8 +79,7 @@ pub fn tickbutton_serve(words: &mut [u32], record: &[u8]) -> u64
     ensures { ServesAs words.old «record».now result words.new }
 {
     let verdict = service::serve(words, record);
-    let answer = verdict.answer;
-    told_answer(answer, verdict.taken as u64)
+    told_answer(verdict.answer, verdict.taken as u64)
 }
 
 // Whether the words are sound tables: done with 0 where they are, else refused with 1.
@@ -92,7 +89,7 @@ pub fn tickbutton_sound(words: &[u32]) -> u64
     if soundness::sound(words) {
         return told(DONE, 0, 0);
     }
-    told(REFUSED, UNSOUND as u64, 0)
+    told(REFUSED, u64::from(UNSOUND), 0)
 }
 
 // Walks a path over the words, a link at its last name too where that is asked: done with the node that it leads to, 0 for an absence, or
@@ -107,8 +104,8 @@ pub fn tickbutton_walk(
     ensures { WalksAs words.now path.now follow_last result goal.new }
 {
     match walk_told::walk_to(words, path, follow_last, goal) {
-        Arrival::Node(node) => told(DONE, node as u64, 0),
-        Arrival::Refused(number) => told(REFUSED, number as u64, 0),
+        Ok(node) => told(DONE, u64::from(node), 0),
+        Err(stop) => told(REFUSED, u64::from(stop), 0),
     }
 }
 

@@ -24,7 +24,7 @@ const HOLD_BUCKETS: usize = 509;
 type HoldIndex = Links<HOLD_BUCKETS, HOLD_ROWS>;
 
 // One more than the last row with a hold, 0 for none. Holds go to the lowest free row, so that most free ones are behind it.
-// stays: the rows in use go as a number beside the words, a lent &[u32] by document 01 (rule of the project): a type of it could not name them.
+// stays: a rule of the project: a count of rows, not a row, that goes beside the words, which document 01 lends as a slice: no type of it could name them.
 pub fn used_hold_rows(words: &[u32]) -> usize
     requires { Stands words.now }
     ensures { result ≡ used_rows words.now }

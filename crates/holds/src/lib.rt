@@ -84,6 +84,7 @@ fn others_hold<F: Fn(&[u32], usize) -> bool>(words: &[u32], directory: u16, test
     false
 }
 
+// stays: end_held and entry_held, and drop_preempted and drop_overruled, differ in the test that they pass alone: each is a public function with a clause of its own.
 pub fn end_held(words: &[u32], caller: Caller, walk: Walk) -> bool
     requires { (Stands words.now) × ((Known (unpack words.now).processes caller) × (WalkNamed walk)) }
     ensures { result ≡ end_held (unpack words.now) caller.process (goal_of walk) }

@@ -97,6 +97,7 @@ pub fn find_entry(words: &[u32], index: &Index, directory: u16, name: Block) -> 
 }
 
 // The node that the entry of a row leads to, told as `find_entry` tells rows; 0 for an absence.
+// stays: what may not change: its clause is an equation with `node_in`, and 0 is document 01's node of an absence.
 #[tactic(auto, unfolding(crate::specs::Indexed::node_in))]
 pub fn node_found(words: &[u32], found: Option<usize>) -> u16
     requires { (Stands words.now) × (counted found ≤ entry_rows) }

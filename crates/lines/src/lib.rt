@@ -25,6 +25,7 @@ fn put_byte(out: &mut [u8], at: usize, byte: u8) -> usize
 }
 
 // Writes the decimal digits of the number from `at` on, and answers the place behind them.
+// stays: std prints into a String, which takes a heap, and a rule of the project has none.
 fn put_digits(out: &mut [u8], at: usize, number: u64) -> usize
     requires { at + length (digits 19 number) ≤ length out.old }
     ensures { Puts out.old at (digits 19 number) result out.new }

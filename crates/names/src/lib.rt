@@ -26,6 +26,7 @@ const SLASHES: u64 = 0x2f2f2f2f2f2f2f2f;
 pub fn is_good_name(name: Block) -> bool
     ensures { result ≡ good_name name }
 {
+    // stays: no plainer: usize::from takes no u32, and usize::try_from gives a Result whose Err never comes.
     let length = (name.first / FIRST_BYTE_UNIT) as usize;
     if length == 0 || length > LONGEST_NAME || name.first == ONE_DOT || name.first == TWO_DOTS {
         return false;
@@ -48,7 +49,7 @@ fn words_fit(name: Block, count: usize) -> bool
 fn half_fits(first: u32, second: u32, count: usize) -> bool
     ensures { result ≡ fits count (bytes (first ∷ second ∷ [])) }
 {
-    let half = first as u64 * WORD_UNIT + second as u64;
+    let half = u64::from(first) * WORD_UNIT + u64::from(second);
     differing(half, 0) == tops_of(count) && differing(half, SLASHES) == TOP_BITS
 }
 

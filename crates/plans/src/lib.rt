@@ -16,9 +16,7 @@ ghost use Rattle.plans.specs.Plans.{Fine, plan_room, Planned, same_rows, planned
 use arrayvec::ArrayVec;
 use edits::set_hold;
 use goals::{Place, Stop, Walk};
-use rows::{
-    Block, ELEMENT, END, HOLD_ROWS, HoldRow, hold_directory, hold_name, hold_process, hold_role,
-};
+use rows::{ELEMENT, END, HOLD_ROWS, HoldRow, hold_directory, hold_name, hold_process, hold_role};
 use search::{free_hold_row, free_hold_rows, has_hold};
 
 // How many holds one call can lack: those on eight elements and on the end.

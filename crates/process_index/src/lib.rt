@@ -45,6 +45,7 @@ pub fn is_in_index(words: &[u32], index: &ProcessIndex, process: u16) -> bool
 }
 
 // The user of a process, 0 where it is not listed.
+// stays: what may not change: its clause is an equation with the model's `user_of`, which is 0 there.
 pub fn user_in_index(words: &[u32], index: &ProcessIndex, process: u16) -> u16
     requires { ProcessesIndexed words.now index.now }
     ensures { result ≡ user_of (unpack words.now).processes process }

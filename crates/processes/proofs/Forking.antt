@@ -1,11 +1,11 @@
 -- Fork: its 16, that parent and child are two, and its edits one behind the other. Assumes nothing.
-use mathlib.Core.Path.{◌≡◌, sym, ap, ◌∙◌}
+use mathlib.Core.Path.{◌≡◌, refl, sym, ap, ◌∙◌}
 use mathlib.Core.Bool.{Bool, true, false, not}
 use mathlib.Core.Logic.{◌≢◌}
 use mathlib.Core.List.{List}
 use Prim.Native.Nat.{ℕ}
 use lib.Dec.{ltb}
-use Rattle.std.specs.Prelude.{Option, Some, None}
+use Rattle.std.specs.Prelude.{Some, None}
 use Rattle.model.specs.Lists.{count}
 use Rattle.model.specs.Tables.{Tables, Hold, free_hold, listed, user_of, with_holds, with_processes}
 use Rattle.model.specs.Words.{unpack}
@@ -27,18 +27,18 @@ module _ (w : List ℕ) where
       ap (λ x. ltb x m) e ∙ ap (ltb (count free_hold (unpack w).holds)) (f ∙ sym (copies_count parent child (unpack w).holds))
 
 -- fork's 4, and the parent's user
-module _ (t : Tables) (p : ℕ) {r : Option Caller} (e : r ≡ listing_of t.processes p) where
-  pub told_4 : r ≡ None → true ≡ unlisted t p
+module _ (t : Tables) (p : ℕ) where
+  pub told_4 : None ≡ listing_of t.processes p → true ≡ unlisted t p
   unfolding unlisted
-  told_4 u = ap not (sym (told_unlisted t.processes p e u))
+  told_4 e = ap not (sym (told_unlisted t.processes p e refl))
 
-  module _ {c : Caller} (s : r ≡ Some c) where
+  module _ {c : Caller} (e : Some c ≡ listing_of t.processes p) where
     pub told_not_4 : false ≡ unlisted t p
     unfolding unlisted
-    told_not_4 = ap not (sym (told_listed t.processes p e s))
+    told_not_4 = ap not (sym (told_listed t.processes p e refl))
 
     pub told_user : c.user ≡ user_of t.processes p
-    told_user = ap (λ (x : Caller). x.user) (told_caller t.processes p e s)
+    told_user = ap (λ (x : Caller). x.user) (told_caller t.processes p e refl)
 
 -- a listed process and one that is not are two
 pub two_processes : (t : Tables) (p q : ℕ) {a b : Bool} → a ≡ unlisted t p → a ≡ false → b ≡ listed t.processes q → b ≡ false → p ≢ q

@@ -9,6 +9,7 @@ use super::{drop_process, is_unlisted};
 use holds::drop_of_process;
 use model::{Answer, NOT_LISTED};
 
+// stays: exec and exit are two calls of document 01, and exit writes once more; one function for both would take that as a flag, which is no plainer.
 pub fn exit(words: &mut [u32], process: u16) -> Answer
     requires { Stands words.old }
     ensures { Meets words.old (exit (unpack words.old) (process_call 4 process 0)) result words.new }

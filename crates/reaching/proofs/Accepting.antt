@@ -18,10 +18,10 @@ use Rattle.invariants.proofs.Accepted.{well_formed_same, valid_target_short, fie
 use Rattle.invariants.proofs.Order.{Proper, process_there, child_there, path1_valid, path2_valid, target_valid}
 use Rattle.invariants.proofs.Records.{Whole, whole}
 use Rattle.invariants.proofs.Served.{fields_proper}
-use Rattle.records.specs.declared.Part.{Part}
 use Rattle.records.specs.declared.Fields.{Fields}
-use Rattle.records.specs.declared.Reading.TheVariants.{Accepted}
-use Rattle.records.specs.Reading.{fields_of, answered, reading, part_of, outcome_of}
+use Rattle.std.specs.Prelude.{Ok}
+use Rattle.records.specs.declared.Accepted.{Accepted}
+use Rattle.records.specs.Reading.{Part, Reading, fields_of, answered, reading, part_of, outcome_of}
 use Rattle.records.proofs.ThereAndBack.{reading_means}
 use Rattle.reaching.specs.Ready.{call_in, PathIn, Walks}
 
@@ -48,7 +48,7 @@ pub part_bytes : {s : List ℕ} (p : Part) → Each Byte s → Each Byte (part_o
 unfolding part_of
 part_bytes p bytes = each_take p.length (each_drop p.start bytes)
 
-module _ {s : List ℕ} {f : Fields} {n : ℕ} (bytes : Each Byte s) (e : reading s ≡ Accepted f n) where
+module _ {s : List ℕ} {f : Fields} {n : ℕ} (bytes : Each Byte s) (e : reading s ≡ Ok (record { fields = f; taken = n })) where
   pub call_read : read s ≡ granted (call_in s f)
   unfolding outcome_of
   call_read = sym (reading_means s) ∙ ap (outcome_of s) e
@@ -71,8 +71,8 @@ module _ {s : List ℕ} {f : Fields} {n : ℕ} (bytes : Each Byte s) (e : readin
   unfolding reading answered
   fields_read = go (sym (ap (answered (taken s)) call_read) ∙ e) ∙ ap fields_of (sym fields_are)
     where
-      go : {g : Fields} {m : ℕ} → Accepted g m ≡ Accepted f n → f ≡ g
-      go h = cc
+      go : {a b : Accepted} → ◌≡◌ {A = Reading} (Ok a) (Ok b) → b.fields ≡ a.fields
+      go {a} {b} h = let same : b ≡ a = cc in ap (λ (x : Accepted). x.fields) same
 
   is_whole : Whole s
   unfolding read

@@ -12,10 +12,10 @@ use Rattle.model.specs.Serve.{judged_with, judged}
 use Rattle.model.specs.declared.Answer.{Answer}
 use Rattle.model.specs.declared.Answer.TheVariants as answers
 use Rattle.laws.proofs.Bools.{not_false}
-use Rattle.records.specs.declared.Fields.{Fields}
-use Rattle.records.specs.declared.Reading.{Reading}
-use Rattle.records.specs.declared.Reading.TheVariants.{Accepted, Refused}
-use Rattle.records.specs.Reading.{cut_short, answered, reading, outcome_of}
+use Rattle.std.specs.Prelude.{Ok, Err}
+use Rattle.records.specs.declared.Accepted.{Accepted}
+use Rattle.records.specs.declared.Rejected.{Rejected}
+use Rattle.records.specs.Reading.{Reading, cut_short, answered, reading, outcome_of}
 use Rattle.records.proofs.ThereAndBack.{reading_means}
 use Rattle.rows.specs.Meets.{answer_of, words_of, Meets}
 use Rattle.rows.proofs.Meeting.{refuses, passes, meets_as}
@@ -70,14 +70,14 @@ module _ (w s : List ℕ) (found : Reading) (is : found ≡ reading s) {b : Bool
           let t : sound w ≡ true = sym tested ∙ not_false sounds right in
           rw (k, t, reads o e)
 
-      pub judged_broken : {n taken : ℕ} → found ≡ Refused n taken → Meets w (judged w s) (answers.Refused n) w
+      pub judged_broken : {e : Rejected} → found ≡ Err e → Meets w (judged w s) (answers.Refused e.number) w
       unfolding outcome_of ◌>>=◌ answer_of words_of
-      judged_broken {n} e = meets_as (goes_on (refused n) (ap (outcome_of s) e)) (record { answer = refl; words = refl })
+      judged_broken {e} is_e = meets_as (goes_on (refused e.number) (ap (outcome_of s) is_e)) (record { answer = refl; words = refl })
 
-      pub judged_step : {f : Fields} {taken : ℕ} → found ≡ Accepted f taken → judged w s ≡ step (unpack w) (call_in s f)
+      pub judged_step : {a : Accepted} → found ≡ Ok a → judged w s ≡ step (unpack w) (call_in s a.fields)
       unfolding outcome_of ◌>>=◌
-      judged_step {f} e = goes_on (granted (call_in s f)) (ap (outcome_of s) e)
+      judged_step {a} e = goes_on (granted (call_in s a.fields)) (ap (outcome_of s) e)
 
-      pub judged_call : {f : Fields} {taken : ℕ} {a : Answer} {v : List ℕ} → found ≡ Accepted f taken
-          → Meets w (step (unpack w) (call_in s f)) a v → Meets w (judged w s) a v
+      pub judged_call : {accepted : Accepted} {a : Answer} {v : List ℕ} → found ≡ Ok accepted
+          → Meets w (step (unpack w) (call_in s accepted.fields)) a v → Meets w (judged w s) a v
       judged_call e m = meets_as (judged_step e) m

@@ -31,11 +31,11 @@ use Rattle.rows.specs.Stands as rows
 use Rattle.goals.specs.Goals.{place_row, blank, room_of, stop_of, walked}
 use Rattle.goals.proofs.Back.{GoalFits, OutcomeFits}
 use Rattle.walk.proofs.Goals.{walk_fits}
-use Rattle.records.specs.declared.Part.{Part}
 use Rattle.records.specs.declared.Fields.{Fields}
-use Rattle.records.specs.Reading.{part_of}
+use Rattle.records.specs.Reading.{Part, part_of}
 use Rattle.plans.specs.Plans.{PlaceUsed, StopUsed, WalkUsed}
 use Rattle.edits.specs.Counts.{Countable}
+use Rattle.index.specs.Indexed.{Index}
 use Rattle.reaching.specs.Ready.{Ready, PathIn, Walks}
 use Rattle.reaching.proofs.Accepting.{part_bytes, path1_in}
 
@@ -102,10 +102,6 @@ module _ (t : Tables) (order : InOrder t) (g : Goal) (arrived : Arrived Valid t.
           let blanks = replicate (8 - length g.elements) blank in
           rw (length-append places blanks, length-map g.elements place_row, length-replicate (8 - length g.elements) blank) (omega arith)
 
-pub refusal_used : (n : ℕ) → WalkUsed (walked (refused n))
-unfolding walked StopUsed
-refusal_used n = record { stop = tt; room = refl; elements = none }
-
 -- AN OUTCOME
 
 -- an outcome that the code can hold, and whose goal stands in the tables
@@ -114,7 +110,7 @@ pub record Leading (w : List ℕ) (o : Outcome Goal) : Type 0 where
   pub fits : OutcomeFits o
   pub arrives : (g : Goal) → o ≡ granted g → Arrived Valid (unpack w).entries (unpack w).nodes g
 
-module _ {w heads next s : List ℕ} {f : Fields} (ready : Ready w heads next s f) (follow_last : Bool) where
+module _ {w s : List ℕ} {x : Index} {f : Fields} (ready : Ready w x s f) (follow_last : Bool) where
   -- `at`: the part is a path
   pub path_leads : (p : Part) → PathIn s p → Leading w (walk (unpack w).entries (unpack w).nodes follow_last (part_of s p))
   path_leads p at =

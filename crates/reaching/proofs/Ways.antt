@@ -5,7 +5,7 @@ use mathlib.Core.Bool.{Bool, false}
 use mathlib.Core.List.{List}
 use mathlib.Core.Option.{Option, none, some}
 use Prim.Native.Nat.{ℕ}
-use native.Mathlib.Omega.{arith}
+use Rattle.std.specs.Prelude.{Option as StdOption, None, Result, Ok, Err, ok_or}
 use Rattle.model.specs.Refusals.{Outcome, refused, granted, ◌>>=◌}
 use Rattle.model.specs.Tables.{Place, Process, Tables}
 use Rattle.model.specs.Walk.{Goal, walk}
@@ -20,20 +20,141 @@ use Rattle.edits.specs.Counts.{Countable}
 use Rattle.goals.specs.declared.Stop.{Stop}
 use Rattle.goals.specs.declared.Stop.TheVariants as stops
 use Rattle.goals.specs.declared.Walk.{Walk}
-use Rattle.goals.specs.Goals.{stop_of, walked, goal_of}
-use Rattle.goals.proofs.Back.{OutcomeFits, walked_named, refused_back, granted_back}
+use Rattle.goals.specs.Goals.{stop_of, walked, goal_of, WalkNamed}
+use Rattle.plans.specs.Plans.{WalkUsed}
+use Rattle.goals.proofs.Back.{OutcomeFits, walked_named, goal_back}
 use Rattle.records.specs.declared.Fields.{Fields}
 use Rattle.records.specs.Reading.{part_of}
-use Rattle.plans.specs.Plans.{WalkUsed}
 use Rattle.reaching.specs.declared.Reached.{Reached}
 use Rattle.reaching.specs.declared.ReachedBoth.{ReachedBoth}
-use Rattle.reaching.specs.declared.Way.{Way}
-use Rattle.reaching.specs.declared.Way.TheVariants.{Refused, Open}
 use Rattle.reaching.specs.Behind.{Behind}
+use Rattle.index.specs.Indexed.{Index}
 use Rattle.reaching.specs.Ready.{Ready, Walks, WalksTwice}
-use Rattle.reaching.specs.Ways.{way_behind, way_of, reached, reached_both}
+use Rattle.reaching.specs.Ways.{way_by, way_behind, reached, reached_both}
 use Rattle.reaching.proofs.Accepting.{path2_in}
-use Rattle.reaching.proofs.Walking.{stands_sound, goal_countable, goal_used, refusal_used, Leading, path_leads, reach_leads}
+use Rattle.reaching.proofs.Walking.{stands_sound, goal_countable, goal_used, Leading, path_leads, reach_leads}
+
+-- THE WAY BEHIND A WALK
+
+pub way_open : (s : Stop) (x : Walk) → ((n : ℕ) → s ≡ stops.Refused n → ⊥) → Ok x ≡ way_by s x
+unfolding way_by
+way_open (stops.Refused n) x h = absurd (h n refl)
+way_open stops.Root x h = refl
+way_open (stops.Entry q node) x h = refl
+
+-- the outcome is this walk's goal
+pub record Open (o : Outcome Goal) (x : Walk) : Type 0 where
+  pub goal : Goal
+  pub goes : o ≡ granted goal
+  pub is : x ≡ walked (granted goal)
+
+pub open_as : {whole o : Outcome Goal} {x : Walk} → whole ≡ o → Open o x → Open whole x
+open_as e on = record { goal = on.goal; goes = e ∙ on.goes; is = on.is }
+
+-- the number that `ok_or` gives of no caller
+pub err_of : {o : StdOption Caller} {n m : ℕ} → o ≡ None → Err n ≡ ok_or o m → n ≡ m
+err_of {n = n} {m = m} e h = let same : ◌≡◌ {A = Result Caller ℕ} (Err n) (Err m) = h ∙ ap (λ o. ok_or o m) e in cc
+
+-- the outcome, as the code goes on with it
+abbrev told : Outcome Goal → Result Walk ℕ
+told (refused n) = Err n
+told (granted g) = Ok (walked (granted g))
+
+stop_open : (end : Option Place) (node : ℕ) (x : Walk) → way_by (stop_of end node) x ≡ Ok x
+unfolding way_by stop_of
+stop_open none node x = refl
+stop_open (some q) node x = refl
+
+way_told : (o : Outcome Goal) → way_behind (walked o) ≡ told o
+unfolding walked way_by
+way_told (refused n) = refl
+way_told (granted g) = stop_open g.end g.node (walked (granted g))
+
+shut_told : (o : Outcome Goal) (n : ℕ) → Err n ≡ told o → o ≡ refused n
+shut_told (refused m) n e = cc
+shut_told (granted g) n e = cc
+
+open_told : (o : Outcome Goal) (x : Walk) → Ok x ≡ told o → Open o x
+open_told (refused m) x e = cc
+open_told (granted g) x e = record { goal = g; goes = refl; is = cc }
+
+module _ {o : Outcome Goal} {x : Walk} (e : x ≡ walked o) where
+  pub way_shut : {n : ℕ} → Err n ≡ way_behind x → o ≡ refused n
+  way_shut {n} h = shut_told o n (h ∙ ap way_behind e ∙ way_told o)
+
+  pub way_on : {y : Walk} → Ok y ≡ way_behind x → Open o y
+  way_on {y} h = open_told o y (h ∙ ap way_behind e ∙ way_told o)
+
+-- what is answered, put together
+module _ (processes : List Process) (p : ℕ) where
+  pub reached_refused : {o : Outcome Goal} {n : ℕ} → o ≡ refused n → Err n ≡ reached processes p o
+  unfolding reached
+  reached_refused is = sym (ap (reached processes p) is)
+
+  pub both_stopped : (second : Outcome Goal) {first : Outcome Goal} {n : ℕ} → first ≡ refused n → Err n ≡ reached_both processes p first second
+  unfolding reached_both
+  both_stopped second is = sym (ap (λ q. reached_both processes p q second) is)
+
+  module _ {c : Caller} (same : c ≡ caller processes p) where
+    pub reached_walked : {o : Outcome Goal} {x : Walk} → Open o x → Ok (record { caller = c; walk = x }) ≡ reached processes p o
+    unfolding reached
+    reached_walked on =
+        let is = on.is in
+        (λ i. Ok (record { caller = same i; walk = is i })) ∙ sym (ap (reached processes p) on.goes)
+
+    pub both_shut : {first second : Outcome Goal} {x : Walk} {n : ℕ} → Open first x → second ≡ refused n → Err n ≡ reached_both processes p first second
+    unfolding reached_both
+    both_shut {second = second} new is = sym (ap (λ q. reached_both processes p q second) new.goes ∙ ap (reached_both processes p (granted new.goal)) is)
+
+    pub both_walked : {first second : Outcome Goal} {x y : Walk} → Open first x → Open second y
+        → Ok (record { caller = c; new = x; old = y }) ≡ reached_both processes p first second
+    unfolding reached_both
+    both_walked {second = second} new old =
+        let x = new.is in
+        let y = old.is in
+        (λ i. Ok (record { caller = same i; new = x i; old = y i }))
+        ∙ sym (ap (λ q. reached_both processes p q second) new.goes ∙ ap (reached_both processes p (granted new.goal)) old.goes)
+
+-- WHAT IT TELLS
+
+-- who calls, and that the outcome is this walk's goal
+pub record Told (processes : List Process) (p : ℕ) (o : Outcome Goal) (c : Caller) (x : Walk) : Type 0 where
+  pub is_caller : c ≡ caller processes p
+  pub leads : Open o x
+
+module _ (processes : List Process) (p : ℕ) where
+  pub told_refused : (o : Outcome Goal) {n : ℕ} → Err n ≡ reached processes p o → o ≡ refused n
+  unfolding reached
+  told_refused (refused m) e = cc
+  told_refused (granted g) e = cc
+
+  pub told_open : (o : Outcome Goal) {a : Reached} → Ok a ≡ reached processes p o → Told processes p o a.caller a.walk
+  unfolding reached
+  told_open (refused m) e = cc
+  told_open (granted g) {a} e =
+      let same : a ≡ record { caller = caller processes p; walk = walked (granted g) } = cc in
+      record { is_caller = ap (λ (x : Reached). x.caller) same; leads = record { goal = g; goes = refl; is = ap (λ (x : Reached). x.walk) same } }
+
+  abbrev ends_of : Outcome Goal → Outcome Goal → Outcome Ends
+  ends_of first second = first >>= (λ new. second >>= (λ old. granted (record { new = new; old = old })))
+
+  both_told_refused : (first second : Outcome Goal) {n : ℕ} → Err n ≡ reached_both processes p first second → ends_of first second ≡ refused n
+  unfolding reached_both ◌>>=◌
+  both_told_refused (refused m) second e = cc
+  both_told_refused (granted g) (refused m) e = cc
+  both_told_refused (granted g) (granted h) e = cc
+
+  both_told : (first second : Outcome Goal) {a : ReachedBoth} → Ok a ≡ reached_both processes p first second
+      → Told processes p first a.caller a.new × Told processes p second a.caller a.old
+  unfolding reached_both
+  both_told (refused m) second e = cc
+  both_told (granted g) (refused m) e = cc
+  both_told (granted g) (granted h) {a} e =
+      let same : a ≡ record { caller = caller processes p; new = walked (granted g); old = walked (granted h) } = cc in
+      let who = ap (λ (x : ReachedBoth). x.caller) same in (
+        record { is_caller = who; leads = record { goal = g; goes = refl; is = ap (λ (x : ReachedBoth). x.new) same } },
+        record { is_caller = who; leads = record { goal = h; goes = refl; is = ap (λ (x : ReachedBoth). x.old) same } },
+      )
 
 -- ONE WAY
 
@@ -44,135 +165,42 @@ pub record Came (w : List ℕ) (p : ℕ) (o : Outcome Goal) (c : Caller) (walk :
   pub behind : Behind w c walk
   pub countable : Countable (unpack w).nodes (goal_of walk).node
 
--- an open way is the caller's, and the walk was not refused
-record Opened (c d : Caller) (s : Stop) : Type 0 where
-  same : d ≡ c
-  there : (n : ℕ) → s ≡ stops.Refused n → ⊥
+-- the outcome's goal stands in the tables
+came_by : {w s : List ℕ} {x : Index} {f : Fields} {o : Outcome Goal} (leading : Leading w o) (p : ℕ) → Ready w x s f → {c : Caller} {x : Walk}
+    → Told (unpack w).processes p o c x → Came w p o c x
+unfolding OutcomeFits
+came_by {w} {o = o} leading p ready {c} {x} told =
+    let g = told.leads.goal in
+    let fits = subst OutcomeFits told.leads.goes leading.fits in
+    let back : goal_of x ≡ g = ap goal_of told.leads.is ∙ goal_back g fits in
+    let arrived = leading.arrives g told.leads.goes in
+    record {
+      goes = told.leads.goes ∙ ap granted (sym back);
+      is_caller = told.is_caller;
+      behind =
+          record {
+            stands = stands_sound w ready.sound;
+            known = subst (Known (unpack w).processes) (sym told.is_caller) (record { user = refl });
+            named = subst WalkNamed (sym told.leads.is) (walked_named (granted g) fits);
+            used = subst WalkUsed (sym told.leads.is) (goal_used (unpack w) leading.order g arrived fits);
+          };
+      countable = subst (λ n. Countable (unpack w).nodes n) (ap (λ (x : Goal). x.node) (sym back)) (goal_countable (unpack w) leading.order g arrived);
+    }
 
-opened : (c d : Caller) (s : Stop) → way_behind c s ≡ Open d → Opened c d s
-unfolding way_behind
-opened c d (stops.Refused n) e = let z : ◌≡◌ {A = ℕ} 0 1 = cc in absurd (omega arith)
-opened c d stops.Root e = record { same = cc; there = λ n f. let z : ◌≡◌ {A = ℕ} 0 1 = cc in omega arith }
-opened c d (stops.Entry q node) e = record { same = cc; there = λ n f. let z : ◌≡◌ {A = ℕ} 0 1 = cc in omega arith }
-
-shut : (c : Caller) (s : Stop) (n : ℕ) → way_behind c s ≡ Refused n → s ≡ stops.Refused n
-unfolding way_behind
-shut c (stops.Refused n) m e = cc
-shut c stops.Root m e = let z : ◌≡◌ {A = ℕ} 0 1 = cc in absurd (omega arith)
-shut c (stops.Entry q node) m e = let z : ◌≡◌ {A = ℕ} 0 1 = cc in absurd (omega arith)
-
-pub way_shut : (c : Caller) (o : Outcome Goal) (n : ℕ) → way_of c o ≡ Refused n → o ≡ refused n
-unfolding way_of
-way_shut c o n e = refused_back o (walked o) refl n (shut c (walked o).stop n e)
-
-module _ {w : List ℕ} {o : Outcome Goal} (leading : Leading w o) (p : ℕ) where
-  answer_used : (q : Outcome Goal) → o ≡ q → OutcomeFits q → WalkUsed (walked q)
-  unfolding OutcomeFits
-  answer_used (refused n) e fits = refusal_used n
-  answer_used (granted g) e fits = goal_used (unpack w) leading.order g (leading.arrives g e) fits
-
-  way_open : {heads next s : List ℕ} {f : Fields} → Ready w heads next s f → (d : Caller) → way_of (caller (unpack w).processes p) o ≡ Open d
-      → Came w p o d (walked o)
-  unfolding way_of
-  way_open ready d e =
-      let free = opened (caller (unpack w).processes p) d (walked o).stop e in
-      let goes = granted_back o (walked o) refl leading.fits free.there in
-      record {
-        goes = goes;
-        is_caller = free.same;
-        behind =
-            record {
-              stands = stands_sound w ready.sound;
-              known = subst (Known (unpack w).processes) (sym free.same) (record { user = refl });
-              named = walked_named o leading.fits;
-              used = answer_used o refl leading.fits;
-            };
-        countable = goal_countable (unpack w) leading.order (goal_of (walked o)) (leading.arrives (goal_of (walked o)) goes);
-      }
-
--- what is answered, put together
-module _ (processes : List Process) (p : ℕ) where
-  pub reached_refused : {o : Outcome Goal} {n : ℕ} {x : Walk} → x ≡ walked (refused n) → o ≡ refused n →
-      record { way = Refused n; walk = x } ≡ reached processes p o
-  unfolding reached way_of way_behind walked
-  reached_refused {n = n} e is = ap (λ (x : Walk). record { way = Refused n; walk = x }) e ∙ ap (reached processes p) (sym is)
-
-  module _ {c : Caller} (same : c ≡ caller processes p) (o : Outcome Goal) {x : Walk} (e : x ≡ walked o) {way : Way} (h : way ≡ way_behind c x.stop) where
-    way_known : way ≡ way_of (caller processes p) o
-    unfolding way_of
-    way_known = h ∙ ap (λ d. way_behind d x.stop) same ∙ ap (λ (y : Walk). way_behind (caller processes p) y.stop) e
-
-    pub reached_walked : {whole : Outcome Goal} → whole ≡ o → record { way = way; walk = x } ≡ reached processes p whole
-    unfolding reached
-    reached_walked is = (λ i. record { way = way_known i; walk = e i }) ∙ ap (reached processes p) (sym is)
-
-    pub both_walked : {first : Outcome Goal} {g : Goal} {new : Walk} → first ≡ granted g → new ≡ walked first →
-        record { way = way; new = new; old = x } ≡ reached_both processes p first o
-    unfolding reached_both
-    both_walked {new = new} is f =
-        let now = f ∙ ap walked is in
-        (λ i. record { way = way_known i; new = now i; old = e i }) ∙ ap (λ q. reached_both processes p q o) (sym is)
-
-  pub both_stopped : (second : Outcome Goal) {first : Outcome Goal} {n : ℕ} {new old : Walk} → first ≡ refused n → new ≡ walked first → old ≡ walked (refused n) →
-      record { way = Refused n; new = new; old = old } ≡ reached_both processes p first second
-  unfolding reached_both
-  both_stopped second {n = n} is f e =
-      let now = f ∙ ap walked is in
-      (λ i. record { way = Refused n; new = now i; old = e i }) ∙ ap (λ q. reached_both processes p q second) (sym is)
-
--- TWO WAYS
-
-abbrev ends_of : Outcome Goal → Outcome Goal → Outcome Ends
-ends_of first second = first >>= (λ new. second >>= (λ old. granted (record { new = new; old = old })))
-
-both_shut : (processes : List Process) (p : ℕ) (first second : Outcome Goal) (n : ℕ) → (reached_both processes p first second).way ≡ Refused n →
-    ends_of first second ≡ refused n
-unfolding reached_both ◌>>=◌
-both_shut processes p (refused m) second n e = cc
-both_shut processes p (granted g) second n e = rw (way_shut (caller processes p) second n e)
-
--- a goal that was reached leaves the way open
-stop_open : (c : Caller) (end : Option Place) (node : ℕ) → way_behind c (stop_of end node) ≡ Open c
-unfolding way_behind stop_of
-stop_open c none node = refl
-stop_open c (some q) node = refl
-
-granted_open : (c : Caller) (g : Goal) → way_of c (granted g) ≡ Open c
-unfolding way_of walked
-granted_open c g = stop_open c g.end g.node
-
-module _ {w heads next s : List ℕ} {f : Fields} {first second : Outcome Goal} (leads : Leading w first) (then : Leading w second) (p : ℕ)
-    (ready : Ready w heads next s f) (d : Caller) where
-  by_first : (o : Outcome Goal) → first ≡ o → (reached_both (unpack w).processes p o second).way ≡ Open d →
-      Came w p first d (reached_both (unpack w).processes p o second).new × Came w p second d (reached_both (unpack w).processes p o second).old
-  unfolding reached_both
-  by_first (refused n) is e = let z : ◌≡◌ {A = ℕ} 0 1 = cc in absurd (omega arith)
-  by_first (granted g) is e =
-      let old = way_open then p ready d e in
-      let asks = caller (unpack w).processes p in
-      let new = way_open leads p ready d (ap (way_of asks) is ∙ granted_open asks g ∙ ap Open (sym old.is_caller)) in
-      (subst (Came w p first d) (ap walked is) new, old)
-
-module _ {w heads next s : List ℕ} {f : Fields} (ready : Ready w heads next s f) (walks : Walks f) where
+module _ {w s : List ℕ} {x : Index} {f : Fields} (ready : Ready w x s f) (walks : Walks f) where
   -- WHERE PATH 1 LEADS
 
-  module _ (follow_last : Bool) {r : Reached}
-      (answer : r ≡ reached (unpack w).processes f.process (reaching (unpack w) f.process follow_last (part_of s f.path1))) where
+  module _ (follow_last : Bool) where
     abbrev First : Outcome Goal
     First = reaching (unpack w) f.process follow_last (part_of s f.path1)
 
-    pub refused_on_the_way : {n : ℕ} → r.way ≡ Refused n → (rest : Goal → Outcome Change) → Meets w (First >>= rest) (answers.Refused n) w
-    unfolding reached ◌>>=◌ answer_of words_of
-    refused_on_the_way {n} e rest =
-        let is = way_shut (caller (unpack w).processes f.process) First n (sym (ap (λ (x : Reached). x.way) answer) ∙ e) in
-        rw is (record { answer = refl; words = refl })
+    pub refused_on_the_way : {n : ℕ} → Err n ≡ reached (unpack w).processes f.process First → (rest : Goal → Outcome Change)
+        → Meets w (First >>= rest) (answers.Refused n) w
+    unfolding ◌>>=◌ answer_of words_of
+    refused_on_the_way e rest = rw (told_refused (unpack w).processes f.process First e) (record { answer = refl; words = refl })
 
-    pub came : {c : Caller} → r.way ≡ Open c → Came w f.process First c r.walk
-    unfolding reached
-    came {c} e =
-        let way = sym (ap (λ (x : Reached). x.way) answer) ∙ e in
-        subst (Came w f.process First c) (sym (ap (λ (x : Reached). x.walk) answer))
-        (way_open (reach_leads ready follow_last walks) f.process ready c way)
+    pub came : {a : Reached} → Ok a ≡ reached (unpack w).processes f.process First → Came w f.process First a.caller a.walk
+    came e = came_by (reach_leads ready follow_last walks) f.process ready (told_open (unpack w).processes f.process First e)
 
   -- WHERE BOTH PATHS LEAD
 
@@ -186,22 +214,19 @@ module _ {w heads next s : List ℕ} {f : Fields} (ready : Ready w heads next s 
     abbrev Both : Outcome Ends
     Both = reaching_both (unpack w) f.process (part_of s f.path1) (part_of s f.path2)
 
-    module _ {r : ReachedBoth} (answer : r ≡ reached_both (unpack w).processes f.process New Old) where
-      pub both_refused : {n : ℕ} → r.way ≡ Refused n → (rest : Ends → Outcome Change) → Meets w (Both >>= rest) (answers.Refused n) w
-      unfolding reaching_both ◌>>=◌ answer_of words_of
-      both_refused {n} e rest =
-          let is = both_shut (unpack w).processes f.process New Old n (sym (ap (λ (x : ReachedBoth). x.way) answer) ∙ e) in
-          rw is (record { answer = refl; words = refl })
+    pub both_refused : {n : ℕ} → Err n ≡ reached_both (unpack w).processes f.process New Old → (rest : Ends → Outcome Change)
+        → Meets w (Both >>= rest) (answers.Refused n) w
+    unfolding reaching_both ◌>>=◌ answer_of words_of
+    both_refused e rest = rw (both_told_refused (unpack w).processes f.process New Old e) (record { answer = refl; words = refl })
 
-      pub both_came : {c : Caller} → r.way ≡ Open c → Came w f.process New c r.new × Came w f.process Old c r.old
-      unfolding WalksTwice
-      both_came {c} e =
-          let second = path_leads ready false f.path2 (path2_in ready.bytes ready.read twice) in
-          let way = sym (ap (λ (x : ReachedBoth). x.way) answer) ∙ e in
-          let both = by_first (reach_leads ready false walks) second f.process ready c New refl way in (
-            subst (Came w f.process New c) (sym (ap (λ (x : ReachedBoth). x.new) answer)) both.0,
-            subst (Came w f.process Old c) (sym (ap (λ (x : ReachedBoth). x.old) answer)) both.1,
-          )
+    pub both_came : {a : ReachedBoth} → Ok a ≡ reached_both (unpack w).processes f.process New Old
+        → Came w f.process New a.caller a.new × Came w f.process Old a.caller a.old
+    unfolding WalksTwice
+    both_came e =
+        let both = both_told (unpack w).processes f.process New Old e in (
+          came_by (reach_leads ready false walks) f.process ready both.0,
+          came_by (path_leads ready false f.path2 (path2_in ready.bytes ready.read twice)) f.process ready both.1,
+        )
 
 -- THE CALL GOES ON
 

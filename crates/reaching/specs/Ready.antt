@@ -1,14 +1,12 @@
 -- What the calls of an accepted record go on with, and what their paths have to be. Assumes nothing.
-use Rattle.std.specs.Prelude.{◌≡◌, true, List, ℕ, ◌+◌, ◌≤◌, length}
+use Rattle.std.specs.Prelude.{◌≡◌, true, List, ℕ, ◌+◌, ◌≤◌, length, Ok}
 use Rattle.model.specs.Paths.{valid_path}
 use Rattle.model.specs.Sound.{sound}
 use Rattle.model.specs.Records.{Call, known, path, row_of}
 use Rattle.laws.specs.Each.{Each, Byte}
-use Rattle.records.specs.declared.Part.{Part}
 use Rattle.records.specs.declared.Fields.{Fields}
-use Rattle.records.specs.declared.Reading.TheVariants.{Accepted}
-use Rattle.records.specs.Reading.{reading, part_of}
-use Rattle.index.specs.Indexed.{Indexed}
+use Rattle.records.specs.Reading.{Part, reading, part_of}
+use Rattle.index.specs.Indexed.{Index, Indexed}
 
 -- the call that a record's fields and bytes are
 abbrev pub call_in : List ℕ → Fields → Call
@@ -23,16 +21,16 @@ call_in s f =
     }
 
 -- the tables are sound, their entries are indexed, and the bytes were read as these fields
-pub record Ready (w heads next s : List ℕ) (f : Fields) : Type 0 where
+pub record Ready (w : List ℕ) (x : Index) (s : List ℕ) (f : Fields) : Type 0 where
   pub sound : sound w ≡ true
-  pub indexed : Indexed w heads next
+  pub indexed : Indexed w x
   pub bytes : Each Byte s
   pub taken : ℕ
-  pub read : reading s ≡ Accepted f taken
+  pub read : reading s ≡ Ok (record { fields = f; taken = taken })
 
 -- the same where the call's number is that of a call: the refusal of any other number rests on nothing
-abbrev pub ReadyWhereKnown : List ℕ → List ℕ → List ℕ → List ℕ → Fields → Type 0
-ReadyWhereKnown w heads next s f = known f.call ≡ true → Ready w heads next s f
+abbrev pub ReadyWhereKnown : List ℕ → Index → List ℕ → Fields → Type 0
+ReadyWhereKnown w x s f = known f.call ≡ true → Ready w x s f
 
 -- a part of the bytes that is a valid path
 pub record PathIn (s : List ℕ) (p : Part) : Type 0 where

@@ -1,33 +1,33 @@
 -- Where one path and where two paths lead a caller, as the calls go on with it. Assumes nothing.
-use Rattle.std.specs.Prelude.{List, ℕ}
+use Rattle.std.specs.Prelude.{List, ℕ, Result, Ok, Err}
 use Rattle.model.specs.Refusals.{Outcome, refused, granted}
 use Rattle.model.specs.Tables.{Process}
 use Rattle.model.specs.Walk.{Goal}
-use Rattle.search.specs.declared.Caller.{Caller}
 use Rattle.search.specs.Callers.{caller}
 use Rattle.goals.specs.declared.Stop.{Stop}
 use Rattle.goals.specs.declared.Stop.TheVariants as stops
+use Rattle.goals.specs.declared.Walk.{Walk}
 use Rattle.goals.specs.Goals.{walked}
-use Rattle.reaching.specs.declared.Way.{Way}
-use Rattle.reaching.specs.declared.Way.TheVariants.{Refused, Open}
 use Rattle.reaching.specs.declared.Reached.{Reached}
 use Rattle.reaching.specs.declared.ReachedBoth.{ReachedBoth}
 
--- a walk that was refused ends the call
-unfoldable pub way_behind : Caller → Stop → Way
-way_behind c (stops.Refused n) = Refused n
-way_behind c stops.Root = Open c
-way_behind c (stops.Entry q node) = Open c
+unfoldable pub way_by : Stop → Walk → Result Walk ℕ
+way_by (stops.Refused n) walk = Err n
+way_by stops.Root walk = Ok walk
+way_by (stops.Entry q node) walk = Ok walk
 
-unfoldable pub way_of : Caller → Outcome Goal → Way
-way_of c o = way_behind c (walked o).stop
+-- a walk that was refused ends the call
+abbrev pub way_behind : Walk → Result Walk ℕ
+way_behind walk = way_by walk.stop walk
 
 -- process p, where this is the outcome of its path
-unfoldable pub reached : List Process → ℕ → Outcome Goal → Reached
-reached processes p o = record { way = way_of (caller processes p) o; walk = walked o }
+unfoldable pub reached : List Process → ℕ → Outcome Goal → Result Reached ℕ
+reached processes p (refused n) = Err n
+reached processes p (granted g) = Ok (record { caller = caller processes p; walk = walked (granted g) })
 
 -- the same of two paths; the second is walked where the first leads somewhere
-unfoldable pub reached_both : List Process → ℕ → Outcome Goal → Outcome Goal → ReachedBoth
-reached_both processes p (refused n) second = record { way = Refused n; new = walked (refused n); old = walked (refused n) }
-reached_both processes p (granted g) second =
-    record { way = way_of (caller processes p) second; new = walked (granted g); old = walked second }
+unfoldable pub reached_both : List Process → ℕ → Outcome Goal → Outcome Goal → Result ReachedBoth ℕ
+reached_both processes p (refused n) second = Err n
+reached_both processes p (granted g) (refused n) = Err n
+reached_both processes p (granted g) (granted h) =
+    Ok (record { caller = caller processes p; new = walked (granted g); old = walked (granted h) })

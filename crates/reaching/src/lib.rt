@@ -12,120 +12,77 @@ ghost use Rattle.reaching.specs.Ready.{PathIn, Ready, Walks, WalksTwice};
 ghost use Rattle.reaching.specs.Ways.{way_behind, reached, reached_both};
 
 use goals::{Stop, Walk};
-use index::BUCKETS;
+use index::Index;
 use model::NOT_LISTED;
 use records::{Fields, Part};
-use rows::ENTRY_ROWS;
-use search::{Caller, Listing, find_caller};
-use walk::{refuse, walk};
+use search::{Caller, find_caller};
+use walk::walk;
 
-pub fn walk_part(
-    words: &[u32],
-    heads: &[u16; BUCKETS],
-    next: &[u16; ENTRY_ROWS],
-    bytes: &[u8],
-    part: Part,
-    follow_last: bool,
-) -> Walk
-    requires { (sound words.now ≡ true) × ((Indexed words.now heads.now next.now) × (PathIn bytes.now part)) }
+pub fn walk_part(words: &[u32], index: &Index, bytes: &[u8], part: Part, follow_last: bool) -> Walk
+    requires { (sound words.now ≡ true) × ((Indexed words.now index.now) × (PathIn bytes.now part)) }
     ensures { result ≡ walked (walk (unpack words.now).entries (unpack words.now).nodes follow_last (part_of bytes.now part)) }
 {
     let start = part.start;
     let end = start + part.length;
-    walk(words, heads, next, &bytes[start..end], follow_last)
+    walk(words, index, &bytes[start..end], follow_last)
 }
 
-// Whether a call may go on, and then who calls; or the number that it is refused with.
+// An accepted record: its fields, and the bytes that its paths stand in.
 #[derive(Clone, Copy)]
-pub enum Way {
-    Refused(u8),
-    Open(Caller),
+pub struct Record<'a> {
+    pub bytes: &'a [u8],
+    pub fields: Fields,
 }
 
-// Where path 1 leads; of a refused call no walk is used.
+// Who calls, and where path 1 leads.
 #[derive(Clone, Copy)]
 pub struct Reached {
-    pub way: Way,
+    pub caller: Caller,
     pub walk: Walk,
 }
 
-// Where both paths lead, the new one and the old one.
+// Who calls, and where both paths lead, the new one and the old one.
 #[derive(Clone, Copy)]
 pub struct ReachedBoth {
-    pub way: Way,
+    pub caller: Caller,
     pub new: Walk,
     pub old: Walk,
 }
 
-fn way_behind(caller: Caller, stop: Stop) -> Way
-    ensures { result ≡ way_behind caller stop }
+// A walk that was refused ends the call.
+fn way_behind(walk: Walk) -> Result<Walk, u8>
+    ensures { result ≡ way_behind walk }
 {
-    match stop {
-        Stop::Refused(number) => Way::Refused(number),
-        Stop::Root => Way::Open(caller),
-        Stop::Entry { place: _, node: _ } => Way::Open(caller),
+    match walk.stop {
+        Stop::Refused(number) => Err(number),
+        _ => Ok(walk),
     }
 }
 
 // How the calls that walk begin: path 1 is walked for a process that is listed.
-pub fn reach(
-    words: &[u32],
-    heads: &[u16; BUCKETS],
-    next: &[u16; ENTRY_ROWS],
-    bytes: &[u8],
-    fields: Fields,
-    follow_last: bool,
-) -> Reached
-    requires { (Ready words.now heads.now next.now bytes.now fields) × (Walks fields) }
-    ensures { result ≡ reached (unpack words.now).processes fields.process (reaching (unpack words.now) fields.process follow_last (part_of bytes.now fields.path1)) }
+pub fn reach(words: &[u32], index: &Index, call: Record, follow_last: bool) -> Result<Reached, u8>
+    requires { (Ready words.now index.now call.bytes.now call.fields) × (Walks call.fields) }
+    ensures { result ≡ reached (unpack words.now).processes call.entry.fields.process (reaching (unpack words.now) call.entry.fields.process follow_last (part_of call.entry.bytes.now call.entry.fields.path1)) }
 {
-    let listing = find_caller(words, fields.process);
-    let path = fields.path1;
-    match listing {
-        Listing::Unlisted => Reached {
-            way: Way::Refused(NOT_LISTED),
-            walk: refuse(NOT_LISTED),
-        },
-        Listing::Listed(caller) => {
-            let walk = walk_part(words, heads, next, bytes, path, follow_last);
-            let stop = walk.stop;
-            Reached {
-                way: way_behind(caller, stop),
-                walk,
-            }
-        }
-    }
+    let caller = find_caller(words, call.fields.process).ok_or(NOT_LISTED)?;
+    let path = call.fields.path1;
+    let walk = walk_part(words, index, call.bytes, path, follow_last);
+    let walk = way_behind(walk)?;
+    Ok(Reached { caller, walk })
 }
 
 // How the calls with two paths begin: path 1 is walked before path 2, and neither walk follows a last link.
-pub fn reach_both(
-    words: &[u32],
-    heads: &[u16; BUCKETS],
-    next: &[u16; ENTRY_ROWS],
-    bytes: &[u8],
-    fields: Fields,
-) -> ReachedBoth
-    requires { (Ready words.now heads.now next.now bytes.now fields) × ((Walks fields) × (WalksTwice fields)) }
-    ensures { result ≡ reached_both (unpack words.now).processes fields.process (reaching (unpack words.now) fields.process false (part_of bytes.now fields.path1)) (walk (unpack words.now).entries (unpack words.now).nodes false (part_of bytes.now fields.path2)) }
+pub fn reach_both(words: &[u32], index: &Index, call: Record) -> Result<ReachedBoth, u8>
+    requires { (Ready words.now index.now call.bytes.now call.fields) × ((Walks call.fields) × (WalksTwice call.fields)) }
+    ensures { result ≡ reached_both (unpack words.now).processes call.entry.fields.process (reaching (unpack words.now) call.entry.fields.process false (part_of call.entry.bytes.now call.entry.fields.path1)) (walk (unpack words.now).entries (unpack words.now).nodes false (part_of call.entry.bytes.now call.entry.fields.path2)) }
 {
-    let first = reach(words, heads, next, bytes, fields, false);
-    let way = first.way;
-    let new = first.walk;
-    let old_path = fields.path2;
-    match way {
-        Way::Refused(number) => ReachedBoth {
-            way: Way::Refused(number),
-            new,
-            old: refuse(number),
-        },
-        Way::Open(caller) => {
-            let old = walk_part(words, heads, next, bytes, old_path, false);
-            let stop = old.stop;
-            ReachedBoth {
-                way: way_behind(caller, stop),
-                new,
-                old,
-            }
-        }
-    }
+    let first = reach(words, index, call, false)?;
+    let old_path = call.fields.path2;
+    let walk = walk_part(words, index, call.bytes, old_path, false);
+    let old = way_behind(walk)?;
+    Ok(ReachedBoth {
+        caller: first.caller,
+        new: first.walk,
+        old,
+    })
 }

@@ -4,11 +4,11 @@ use mathlib.Core.Bool.{Bool, true, false, cond}
 use mathlib.Core.List.{List}
 use Prim.Native.Nat.{ℕ}
 use Rattle.std.specs.Prelude.{Option, Some, None}
-use Rattle.model.specs.Tables.{Process, is_process, listed, user_of}
+use Rattle.model.specs.Tables.{Process, is_process, listed}
 use Rattle.model.specs.Words.{unpack}
 use Rattle.rows.specs.Stands.{process_row}
 use Rattle.search.specs.declared.Caller.{Caller}
-use Rattle.search.specs.Callers.{Known, caller, listing_of}
+use Rattle.search.specs.Callers.{caller, listing_of}
 use Rattle.search.specs.Rows.{first_row}
 use Rattle.search.proofs.Rows.{found_none, found_row}
 use Rattle.search.proofs.Tests.{user_by_row}
@@ -49,6 +49,3 @@ module _ (processes : List Process) (p : ℕ) {r : Option Caller} (e : r ≡ lis
     pub told_caller : c ≡ caller processes p
     unfolding listing_of
     told_caller = let f : Some c ≡ Some (caller processes p) = sym s ∙ e ∙ ap (λ x. cond x (Some (caller processes p)) None) told_listed in cc
-
-    pub told_known : Known processes c
-    told_known = record { user = ap (λ (x : Caller). x.user) told_caller ∙ ap (λ (x : Caller). user_of processes x.process) (sym told_caller) }

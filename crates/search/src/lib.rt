@@ -46,6 +46,7 @@ pub fn is_listed(words: &[u32], process: u16) -> bool
 }
 
 // The user of a process, 0 where it is not listed.
+// stays: what may not change; the clause names user_of, in which the model gives 0 to a process that is not listed.
 pub fn user_of_process(words: &[u32], process: u16) -> u16
     requires { Stands words.now }
     ensures { result ≡ user_of (unpack words.now).processes process }
@@ -120,6 +121,7 @@ pub fn free_hold_rows(words: &[u32]) -> usize
 }
 
 // THE LOWEST FREE ROW of each table, if one is free
+// stays: four searches of one line each, over their own field and their own table's clause; one generic would take both as ghosts, which is no plainer.
 
 pub fn free_entry_row(words: &[u32]) -> Option<usize>
     requires { Stands words.now }

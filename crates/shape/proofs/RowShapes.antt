@@ -69,22 +69,18 @@ zeros_same (t ∷ ts) = go (eqb t 0) (zeros_same ts)
     go true e = e
     go false e = refl
 
--- numbers added up one by one are 0 where all of them are
-unfoldable added : ℕ → List ℕ → ℕ
-added n [] = n
-added n (x ∷ s) = added (n + x) s
+-- the word behind others
+zeros_end : (s : List ℕ) (z : ℕ) → (zeros s && eqb z 0) ≡ zeros (s ++ (z ∷ []))
+unfolding zeros all
+zeros_end [] z = sym (and_true (eqb z 0))
+zeros_end (x ∷ s) z = sym (and_joins (eqb x 0) (zeros s) (eqb z 0)) ∙ ap (λ b. eqb x 0 && b) (zeros_end s z)
 
-added_zero : (s : List ℕ) (n : ℕ) → eqb (added n s) 0 ≡ zeros (n ∷ s)
-unfolding added zeros all
-added_zero [] n = sym (and_true (eqb n 0))
-added_zero (x ∷ s) n = added_zero s (n + x) ∙ ap (λ b. b && zeros s) two ∙ sym (and_joins (eqb n 0) (eqb x 0) (zeros s))
-  where
-    two : eqb (n + x) 0 ≡ (eqb n 0 && eqb x 0)
-    two =
-        same_when _ _ (λ e. let z = eqb-true (n + x) 0 e in both (eq-eqb n 0 (omega arith)) (eq-eqb x 0 (omega arith)))
-        (λ e. let y = eqb-true n 0 (and_left (eqb n 0) (eqb x 0) e) in
-        let z = eqb-true x 0 (and_right (eqb n 0) (eqb x 0) e) in
-        eq-eqb (n + x) 0 (omega arith))
+-- a block that is the blank one, d
+pub blank_block : (b d : Block) → (d.first ≡ 0) × ((d.second ≡ 0) × ((d.third ≡ 0) × (d.fourth ≡ 0)))
+    → (eqb b.first d.first && (eqb b.second d.second && (eqb b.third d.third && eqb b.fourth d.fourth))) ≡ zeros (block_words b)
+unfolding zeros all
+blank_block b d e =
+    rw (e.0, e.1.0, e.1.1.0, e.1.1.1) (ap (λ x. eqb b.first 0 && (eqb b.second 0 && (eqb b.third 0 && x))) (sym (and_true (eqb b.fourth 0))))
 
 -- A ROW THAT WAS READ: its first word, and the name block behind it
 
@@ -102,11 +98,11 @@ module _ (h : ℕ) (b : Block) where
   shaped_entry : Entry → Bool
   shaped_entry e = same (h ∷ block_words b) (pack_entry e) && (free_entry e || valid_name e.place.name)
 
-  entry_blank : h < 65536 → eqb (h + b.first + b.second + b.third + b.fourth + 0) 0 ≡ entry_shaped (h ∷ block_words b)
-  unfolding entry_shaped shaped_entry pack_entry free_entry unpack_entry added zeros all
+  entry_blank : h < 65536 → zeros (h ∷ block_words b) ≡ entry_shaped (h ∷ block_words b)
+  unfolding entry_shaped shaped_entry pack_entry free_entry unpack_entry
   entry_blank l =
       let u : unpack_entry (h ∷ block_words b) ≡ no_entry = simp (upper_none h l, unpack_entry) in
-      added_zero (b.first ∷ b.second ∷ b.third ∷ b.fourth ∷ 0 ∷ []) h ∙ zeros_same (h ∷ block_words b)
+      zeros_same (h ∷ block_words b)
       ∙ sym (ap shaped_entry u ∙ and_true (same (h ∷ block_words b) (replicate entry_words 0)))
 
   entry_good : Word h → 65536 ≤ h → good_name b ≡ entry_shaped (h ∷ block_words b)
@@ -127,8 +123,7 @@ module _ {w : List ℕ} {at : ℕ} {b : Block} (read : RowRead entry_words w at 
       let i = read.inside in
       sym (first_word 4 at w (omega arith) ∙ ap (λ l. get_or w at 0 ∷ l) (block_and 0 (at + 1) w (omega arith) b read.name))
 
-  pub entry_blank_at : get_or w at 0 < 65536
-      → eqb (get_or w at 0 + b.first + b.second + b.third + b.fourth + 0) 0 ≡ entry_shaped (take entry_words (drop at w))
+  pub entry_blank_at : get_or w at 0 < 65536 → zeros (get_or w at 0 ∷ block_words b) ≡ entry_shaped (take entry_words (drop at w))
   entry_blank_at l = entry_blank (get_or w at 0) b l ∙ ap entry_shaped entry_list
 
   pub entry_good_at : 65536 ≤ get_or w at 0 → good_name b ≡ entry_shaped (take entry_words (drop at w))
@@ -143,11 +138,11 @@ module _ (h : ℕ) (b : Block) (z : ℕ) where
   shaped_hold : Hold → Bool
   shaped_hold x = same hold_list (pack_hold x) && (free_hold x || (valid_name x.place.name && role_valid x))
 
-  hold_blank : h < 65536 → eqb (h + b.first + b.second + b.third + b.fourth + z) 0 ≡ hold_shaped hold_list
-  unfolding hold_shaped shaped_hold pack_hold free_hold unpack_hold added
+  hold_blank : h < 65536 → (zeros (h ∷ block_words b) && eqb z 0) ≡ hold_shaped hold_list
+  unfolding hold_shaped shaped_hold pack_hold free_hold unpack_hold
   hold_blank l =
       let u : unpack_hold hold_list ≡ no_hold = simp (upper_none h l, unpack_hold) in
-      added_zero (b.first ∷ b.second ∷ b.third ∷ b.fourth ∷ z ∷ []) h ∙ zeros_same hold_list
+      zeros_end (h ∷ block_words b) z ∙ zeros_same hold_list
       ∙ sym (ap shaped_hold u ∙ and_true (same hold_list (replicate hold_words 0)))
 
   module _ (l : Word h) (g : 65536 ≤ h) where
@@ -219,8 +214,7 @@ module _ {w : List ℕ} {at : ℕ} {b : Block} (read : RowRead hold_words w at b
       sym (first_word 5 at w (omega arith) ∙ ap (λ l. get_or w at 0 ∷ l) (block_and 1 (at + 1) w (omega arith) b read.name
       ∙ ap (λ l. b.first ∷ b.second ∷ b.third ∷ b.fourth ∷ l) (ap (λ n. take 1 (drop n w)) five ∙ first_word 0 (at + 5) w (omega arith))))
 
-  pub hold_blank_at : get_or w at 0 < 65536
-      → eqb (get_or w at 0 + b.first + b.second + b.third + b.fourth + role_in) 0 ≡ hold_shaped (take hold_words (drop at w))
+  pub hold_blank_at : get_or w at 0 < 65536 → (zeros (get_or w at 0 ∷ block_words b) && eqb role_in 0) ≡ hold_shaped (take hold_words (drop at w))
   hold_blank_at l = hold_blank (get_or w at 0) b role_in l ∙ ap hold_shaped hold_list_at
 
   module _ (g : 65536 ≤ get_or w at 0) where

@@ -5,7 +5,7 @@ ghost use Rattle.model.specs.Lists.{all};
 ghost use Rattle.model.specs.Paths.{longest_target};
 ghost use Rattle.model.specs.Tables.{entry_rows, node_rows, hold_rows};
 ghost use Rattle.model.specs.Words.{entry_words, node_words, hold_words, first_node_word, first_hold_word, word_count, bytes};
-ghost use Rattle.rows.specs.Blocks.{target_words};
+ghost use Rattle.rows.specs.Blocks.{block_words, target_words};
 ghost use Rattle.shape.specs.Shaped.{entry_pieces, node_pieces, hold_pieces, process_pieces, entry_shaped, node_shaped, hold_shaped, process_shaped, role_word, zeros, link_fits, shaped};
 
 use names::is_good_name;
@@ -17,6 +17,7 @@ use rows::{
 };
 
 // The words of the two roles, in the top bits.
+// stays: no plainer: a constant can't call u32::from.
 const END_ROLE: u32 = END as u32 * TOP_UNIT;
 
 const ELEMENT_ROLE: u32 = ELEMENT as u32 * TOP_UNIT;
@@ -68,11 +69,11 @@ fn entry_shaped(words: &[u32], row: usize) -> bool
 {
     let at = row * ENTRY_WIDTH;
     let head = words[at];
-    let name = block_at(words, at + 1);
+    let block = block_at(words, at + 1);
     if head < UPPER_UNIT {
-        is_blank(head, name, 0)
+        is_blank(head, block)
     } else {
-        is_good_name(name)
+        is_good_name(block)
     }
 }
 
@@ -85,7 +86,7 @@ fn hold_shaped(words: &[u32], row: usize) -> bool
     let name = block_at(words, at + 1);
     let role = words[at + ROLE_PLACE];
     if head < UPPER_UNIT {
-        is_blank(head, name, role)
+        is_blank(head, name) && role == 0
     } else {
         is_role(role) && is_good_name(name)
     }
@@ -104,16 +105,10 @@ fn is_role(word: u32) -> bool
     word == END_ROLE || word == ELEMENT_ROLE
 }
 
-fn is_blank(head: u32, name: Block, tail: u32) -> bool
-    ensures { result ≡ eqb (head + name.first + name.second + name.third + name.fourth + tail) 0 }
+fn is_blank(head: u32, name: Block) -> bool
+    ensures { result ≡ zeros (head ∷ block_words name) }
 {
-    let sum = head as u64
-        + name.first as u64
-        + name.second as u64
-        + name.third as u64
-        + name.fourth as u64
-        + tail as u64;
-    sum == 0
+    head == 0 && name == Block::default()
 }
 
 fn node_shaped(words: &[u32], row: usize) -> bool

@@ -5,18 +5,18 @@ use Rattle.exports.proofs.tickbutton_pack.Goals as goal
 
 pub told-requires : goal.told-requires
 told-requires c =
-    (search rules, length_small _ _ _ _ (search rules) (search rules) (rw c.in-Length.is at c.pack.ensures), search rules)
+    (search rules, length_small _ _ _ _ (search rules) (search rules) (rw c.in-Ok.is at c.pack.ensures), search rules)
 
-pub returns-in-Length : goal.returns-in-Length
-returns-in-Length c =
+pub returns-in-Ok : goal.returns-in-Ok
+returns-in-Ok c =
     record {
-      answer = c.told.ensures ∙ length_told _ _ _ _ (rw c.in-Length.is at c.pack.ensures);
+      answer = c.told.ensures ∙ length_told _ _ _ _ (rw c.in-Ok.is at c.pack.ensures);
       bytes = c.pack.ensures.bytes;
     }
 
-pub returns-in-Refused : goal.returns-in-Refused
-returns-in-Refused c =
+pub returns-in-Err : goal.returns-in-Err
+returns-in-Err c =
     record {
-      answer = c.told-in-Refused.ensures ∙ refusal_told _ _ _ _ (rw c.in-Refused.is at c.pack.ensures);
+      answer = c.told-in-Err.ensures ∙ rw c.from.ensures (refusal_told _ _ _ _ (rw c.in-Err.is at c.pack.ensures));
       bytes = c.pack.ensures.bytes;
     }

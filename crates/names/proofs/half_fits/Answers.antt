@@ -10,10 +10,13 @@ use Rattle.names.proofs.half_fits.Goals as goal
 
 pub returns-then-differing-tops_of : goal.returns-then-differing-tops_of
 returns-then-differing-tops_of c =
-    passed (eq-eqb _ _ (sym c.differing.ensures ∙ c.if-differing-tops_of.true ∙ c.tops_of.ensures)) (ap (λ x. eqb x top_bits) c.differing-then-differing-tops_of.ensures)
+    let zeros = rw (c.from.ensures, c.from-2.ensures) at c.differing.ensures in
+    let slashes = rw (c.from.ensures, c.from-2.ensures) at c.differing-then-differing-tops_of.ensures in
+    passed (eq-eqb _ _ (sym zeros ∙ c.if-differing-tops_of.true ∙ c.tops_of.ensures)) (ap (λ x. eqb x top_bits) slashes)
     ∙ eight_fit c.args.first c.args.second c.args.count (omega arith) (omega arith)
 
 pub returns-else-differing-tops_of : goal.returns-else-differing-tops_of
 returns-else-differing-tops_of c =
-    ne_eqb _ _ c.if-differing-tops_of.false ∙ stopped _ (ne_eqb _ _ (λ e. c.if-differing-tops_of.false (c.differing.ensures ∙ e ∙ sym c.tops_of.ensures)))
+    let zeros = rw (c.from.ensures, c.from-2.ensures) at c.differing.ensures in
+    ne_eqb _ _ c.if-differing-tops_of.false ∙ stopped _ (ne_eqb _ _ (λ e. c.if-differing-tops_of.false (zeros ∙ e ∙ sym c.tops_of.ensures)))
     ∙ eight_fit c.args.first c.args.second c.args.count (omega arith) (omega arith)

@@ -1,16 +1,12 @@
 -- `reaching::way_behind` meets its contract. Assumes nothing.
-use mathlib.Core.Path.{ap, sym}
-use Rattle.reaching.specs.Ways.{way_behind}
+use mathlib.Core.Path.{sym, ap}
+use Rattle.reaching.specs.Ways.{way_by}
+use Rattle.reaching.proofs.Ways.{way_open}
 use Rattle.reaching.proofs.way_behind.Goals as goal
 
 pub returns-in-Refused : goal.returns-in-Refused
-unfolding way_behind
-returns-in-Refused c = sym (ap (way_behind c.args.caller) c.in-Refused.is)
+unfolding way_by
+returns-in-Refused c = sym (ap (λ s. way_by s c.args.walk) c.in-Refused.is)
 
-pub returns-in-Root : goal.returns-in-Root
-unfolding way_behind
-returns-in-Root c = sym (ap (way_behind c.args.caller) c.in-Root.is)
-
-pub returns-in-Entry : goal.returns-in-Entry
-unfolding way_behind
-returns-in-Entry c = sym (ap (way_behind c.args.caller) c.in-Entry.is)
+pub returns-in_default : goal.returns-in_default
+returns-in_default c = way_open c.args.walk.stop c.args.walk c.in_default.not-Refused

@@ -9,9 +9,9 @@ use Rattle.shape.proofs.entry_shaped.Goals as goal
 pub returns-then-head-lt-UPPER_UNIT : goal.returns-then-head-lt-UPPER_UNIT
 returns-then-head-lt-UPPER_UNIT c =
     c.is_blank.ensures
-    ∙ entry_blank_at (row_read entry_words (c.args.row * entry_words) (omega arith) c.type_inv.words c.block_at-name.ensures) c.if-head-lt-UPPER_UNIT.true
+    ∙ entry_blank_at (row_read entry_words (c.args.row * entry_words) (omega arith) c.type_inv.words c.block_at-block.ensures) c.if-head-lt-UPPER_UNIT.true
 
 pub returns-else-head-lt-UPPER_UNIT : goal.returns-else-head-lt-UPPER_UNIT
 returns-else-head-lt-UPPER_UNIT c =
     c.is_good_name.ensures
-    ∙ entry_good_at (row_read entry_words (c.args.row * entry_words) (omega arith) c.type_inv.words c.block_at-name.ensures) c.if-head-lt-UPPER_UNIT.false
+    ∙ entry_good_at (row_read entry_words (c.args.row * entry_words) (omega arith) c.type_inv.words c.block_at-block.ensures) c.if-head-lt-UPPER_UNIT.false

@@ -1,6 +1,5 @@
 -- `processes::exit::exit` meets its contract: 4, and then the holds are dropped and the process. Assumes nothing.
 use mathlib.Core.Path.{refl}
-use native.Mathlib.Omega.{arith}
 use Rattle.model.specs.Calls.{drop_process, exit}
 use Rattle.model.specs.Tables.{with_processes}
 use Rattle.rows.proofs.Meeting.{grants, passes, refuses, then_becomes}
@@ -9,12 +8,6 @@ use Rattle.processes.proofs.exit.exit.Goals as goal
 pub returns-then-is_unlisted : goal.returns-then-is_unlisted
 unfolding exit
 returns-then-is_unlisted c = refuses _ _ _ c.is_unlisted.ensures c.if-is_unlisted.true
-
-pub drop_process-requires : goal.drop_process-requires
-drop_process-requires c = c.drop_of_process.ensures.stands
-
-pub shape_of-words : goal.shape_of-words
-shape_of-words c = omega (arith, c.drop_process.ensures.stands.long, c.requires.long)
 
 pub returns : goal.returns
 unfolding exit

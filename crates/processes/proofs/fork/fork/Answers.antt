@@ -1,7 +1,7 @@
 -- `processes::fork::fork` meets its contract: 4, 5, 6, 16, and then the copies and the child. Assumes nothing.
-use mathlib.Core.Path.{◌≡◌, refl}
-use mathlib.Core.Bool.{false}
-use Rattle.model.specs.Calls.{fork, unlisted}
+use mathlib.Core.Path.{refl}
+use borrow.Author.Rules.{rules}
+use Rattle.model.specs.Calls.{fork}
 use Rattle.model.specs.Words.{unpack}
 use Rattle.rows.proofs.Meeting.{grants, passes, refuses}
 use Rattle.processes.proofs.Forking.{forked, told_4, told_not_4, told_user, two_processes}
@@ -9,47 +9,36 @@ use Rattle.processes.proofs.fork.fork.Goals as goal
 
 pub returns-in_default : goal.returns-in_default
 unfolding fork
-returns-in_default c = refuses _ _ _ (told_4 (unpack c.args.words.now) c.args.process c.find_caller.ensures c.in_default.is) refl
+returns-in_default c = refuses _ _ _ (told_4 (unpack c.args.words.now) c.args.process c.in_default.ensures) refl
 
 pub returns-then-is_listed : goal.returns-then-is_listed
 unfolding fork
 returns-then-is_listed c =
-    let listed : false ≡ unlisted (unpack c.args.words.now) c.args.process = told_not_4 _ _ c.find_caller.ensures c.in-Some.is in
-    passes _ _ _ listed refl (refuses _ _ _ c.is_listed.ensures c.if-is_listed.true)
+    let listed = told_not_4 (unpack c.args.words.now) c.args.process c.in-Some.ensures in
+    search (rules, refuses, passes)
 
 pub returns-then-lacks_process_row : goal.returns-then-lacks_process_row
 unfolding fork
 returns-then-lacks_process_row c =
-    let listed : false ≡ unlisted (unpack c.args.words.now) c.args.process = told_not_4 _ _ c.find_caller.ensures c.in-Some.is in
-    passes _ _ _ listed refl
-    (passes _ _ _ c.is_listed.ensures c.if-is_listed.false (refuses _ _ _ c.lacks_process_row.ensures c.if-lacks_process_row.true))
+    let listed = told_not_4 (unpack c.args.words.now) c.args.process c.in-Some.ensures in
+    search (rules, refuses, passes)
 
 pub returns-then-lacks_room_for_copies : goal.returns-then-lacks_room_for_copies
 unfolding fork
 returns-then-lacks_room_for_copies c =
-    let listed : false ≡ unlisted (unpack c.args.words.now) c.args.process = told_not_4 _ _ c.find_caller.ensures c.in-Some.is in
-    passes _ _ _ listed refl
-    (passes _ _ _ c.is_listed.ensures c.if-is_listed.false
-    (passes _ _ _ c.lacks_process_row.ensures c.if-lacks_process_row.false
-    (refuses _ _ _ c.lacks_room_for_copies.ensures c.if-lacks_room_for_copies.true)))
+    let listed = told_not_4 (unpack c.args.words.now) c.args.process c.in-Some.ensures in
+    search (rules, refuses, passes) depth 8
 
 pub copy_holds-requires : goal.copy_holds-requires
 copy_holds-requires c =
-    let listed : false ≡ unlisted (unpack c.args.words.now) c.args.process = told_not_4 _ _ c.find_caller.ensures c.in-Some.is in
-    let words = c.args.words.now in let process = c.args.process in
-    (c.requires.0, (c.requires.1.0, two_processes (unpack words) process c.args.child listed refl c.is_listed.ensures c.if-is_listed.false))
-
-pub add_process-requires : goal.add_process-requires
-add_process-requires c = (c.copy_holds.ensures.stands, c.requires.1.1)
+    let t = unpack c.args.words.now in
+    let listed = told_not_4 t c.args.process c.in-Some.ensures in
+    (c.requires.0, (c.requires.1.0, two_processes t c.args.process c.args.child listed refl c.is_listed.ensures c.if-is_listed.false))
 
 pub returns : goal.returns
 unfolding fork
 returns c =
-    let listed : false ≡ unlisted (unpack c.args.words.now) c.args.process = told_not_4 _ _ c.find_caller.ensures c.in-Some.is in
-    let words = c.args.words.now in let process = c.args.process in
-    let done = forked words process c.args.child (told_user (unpack words) process c.find_caller.ensures c.in-Some.is)
-    c.copy_holds.ensures c.add_process.ensures in
-    passes _ _ _ listed refl
-    (passes _ _ _ c.is_listed.ensures c.if-is_listed.false
-    (passes _ _ _ c.lacks_process_row.ensures c.if-lacks_process_row.false
-    (passes _ _ _ c.lacks_room_for_copies.ensures c.if-lacks_room_for_copies.false (grants refl done))))
+    let t = unpack c.args.words.now in
+    let listed = told_not_4 t c.args.process c.in-Some.ensures in
+    let done = forked c.args.words.now c.args.process c.args.child (told_user t c.args.process c.in-Some.ensures) c.copy_holds.ensures c.add_process.ensures in
+    search (rules, passes, grants) depth 10
