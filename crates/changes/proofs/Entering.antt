@@ -5,20 +5,22 @@ use mathlib.Core.List.{List}
 use mathlib.Core.Option.{Option, none, some}
 use Prim.Native.Nat.{ℕ, ◌+◌, ◌≤◌, ◌<◌}
 use native.Mathlib.Omega.{arith}
-use lib.ListN.{length, set}
-use lib.Seq.{set_out}
-use Rattle.model.specs.Lists.{first, put, clear}
+use lib.ListN.{set}
+use Rattle.std.specs.Prelude.{Some, None}
+use Rattle.model.specs.Lists.{put, clear}
 use Rattle.model.specs.Tables.{Place, Entry, Tables, no_entry, free_entry, at, with_entries, entry_rows}
 use Rattle.model.specs.Words.{unpack}
 use Rattle.model.specs.Calls.{add_entry, drop_entry}
 use Rattle.laws.specs.Clears.{clear_at}
 use Rattle.laws.proofs.Clears.{clears, leaves, clear_step}
-use Rattle.laws.proofs.Loops.{clear_from, clear_start, clear_done, put_first}
+use Rattle.laws.proofs.Loops.{clear_from, clear_start, clear_done}
 use Rattle.rows.specs.declared.EntryRow.{EntryRow}
 use Rattle.rows.specs.Rows.{entry_of, GoodEntry}
 use Rattle.rows.specs.Stands.{Stands, Becomes, entry_row}
 use Rattle.rows.proofs.Parts.{entries_full}
 use Rattle.edits.proofs.Written.{good_entry}
+use Rattle.search.specs.Rows.{first_row}
+use Rattle.search.proofs.Rows.{put_found, put_missing}
 use Rattle.goals.specs.declared.Place as goal_place
 use Rattle.goals.specs.Goals.{place_at, PlaceNamed}
 use Rattle.holds.proofs.Towards.{Towards, begin, go_on, arrive}
@@ -59,26 +61,23 @@ pub new_entry_good : (q : goal_place.Place) (n : ℕ) → n < 65536 → PlaceNam
 unfolding PlaceNamed
 new_entry_good q n h named used = good_entry (new_entry q n) used.some used.fits h named
 
-module _ (w : List ℕ) (q : goal_place.Place) (n : ℕ) {k : ℕ} (e : k ≡ first free_entry 0 (unpack w).entries) where
-  pub entry_put : {v : List ℕ} → Becomes v (with_entries (unpack w) (set (unpack w).entries k (entry_of (new_entry q n))))
+module _ (w : List ℕ) (q : goal_place.Place) (n : ℕ) where
+  pub entry_put : {k : ℕ} → Some k ≡ first_row free_entry (unpack w).entries
+      → {v : List ℕ} → Becomes v (with_entries (unpack w) (set (unpack w).entries k (entry_of (new_entry q n))))
       → Becomes v (with_entries (unpack w) (put free_entry (record { place = place_at q; node = n }) (unpack w).entries))
   unfolding entry_of place_at
-  entry_put b =
+  entry_put e b =
       record {
         stands = b.stands;
-        tables = b.tables
-            ∙ ap (with_entries (unpack w))
-            (ap (λ m. set (unpack w).entries m (entry_of (new_entry q n))) e ∙ sym (put_first free_entry (entry_of (new_entry q n)) (unpack w).entries));
+        tables = b.tables ∙ ap (with_entries (unpack w)) (sym (put_found free_entry (unpack w).entries (entry_of (new_entry q n)) e));
       }
 
-  pub entry_not_put : Stands w → entry_rows ≤ k → Becomes w (with_entries (unpack w) (put free_entry (record { place = place_at q; node = n }) (unpack w).entries))
-  entry_not_put s h =
-      let m : length (unpack w).entries ≤ first free_entry 0 (unpack w).entries = omega (arith, entries_full w) in
+  pub entry_not_put : None ≡ first_row free_entry (unpack w).entries → Stands w
+      → Becomes w (with_entries (unpack w) (put free_entry (record { place = place_at q; node = n }) (unpack w).entries))
+  entry_not_put e s =
       record {
         stands = s;
-        tables = ap (with_entries (unpack w))
-            (sym (put_first free_entry (record { place = place_at q; node = n }) (unpack w).entries
-            ∙ set_out (unpack w).entries (first free_entry 0 (unpack w).entries) (record { place = place_at q; node = n }) m));
+        tables = ap (with_entries (unpack w)) (sym (put_missing free_entry (unpack w).entries (record { place = place_at q; node = n }) e));
       }
 
 -- AT THE END OF A WALK, or nowhere

@@ -46,16 +46,14 @@ fn put_at(words: &mut [u32], place: Place, node: u16)
     requires { (Stands words.old) × ((PlaceNamed place) × (PlaceUsed place)) }
     ensures { Becomes words.new (with_entries (unpack words.old) (put free_entry (record { place = place_at place; node = node }) (unpack words.old).entries)) }
 {
-    let row = free_entry_row(words);
-    let name = place.name;
-    if row < ENTRY_ROWS {
+    if let Some(row) = free_entry_row(words) {
         set_entry(
             words,
             row,
             EntryRow {
                 directory: place.directory,
                 node,
-                name,
+                name: place.name,
             },
         );
     }

@@ -19,7 +19,7 @@ pub fn take_preempting(words: &mut [u32], caller: Caller, walk: Walk, plan: Plan
     ensures { Becomes words.new (with_holds (unpack words.old) (taking (unpack words.old) (wanted caller.process (goal_of walk)) (preempted (unpack words.old) caller.process (goal_of walk)))) }
 {
     drop_preempted(words, caller, walk);
-    add_planned(words, plan);
+    add_planned(words, &plan);
 }
 
 // Creation and removal: root drops the holds of others in either role.
@@ -28,7 +28,7 @@ pub fn take_overruling(words: &mut [u32], caller: Caller, walk: Walk, plan: Plan
     ensures { Becomes words.new (with_holds (unpack words.old) (taking (unpack words.old) (wanted caller.process (goal_of walk)) (overruled (unpack words.old) caller.process (goal_of walk)))) }
 {
     drop_overruled(words, caller, walk);
-    add_planned(words, plan);
+    add_planned(words, &plan);
 }
 
 // Rmdir: the holds inside the directory go too.
@@ -39,5 +39,5 @@ pub fn take_emptying(words: &mut [u32], caller: Caller, directory: Walk, plan: P
     let node = node_of(directory);
     drop_overruled(words, caller, directory);
     drop_inside(words, node);
-    add_planned(words, plan);
+    add_planned(words, &plan);
 }

@@ -9,7 +9,7 @@ ghost use Rattle.reaching.specs.Behind.{Behind};
 
 use goals::{Stop, Walk, is_absent, node_of};
 use holds::{entry_held, inside_held, is_root};
-use rows::{DIRECTORY, ENTRY_ROWS, NODE_ROWS, node_kind};
+use rows::{DIRECTORY, node_kind};
 use search::{Caller, free_entry_row, free_node_row};
 
 pub fn is_present(walk: Walk) -> bool
@@ -57,14 +57,14 @@ pub fn lacks_entry_row(words: &[u32]) -> bool
     requires { Stands words.now }
     ensures { result ≡ no_free_entry (unpack words.now) }
 {
-    free_entry_row(words) == ENTRY_ROWS
+    free_entry_row(words).is_none()
 }
 
 fn lacks_node_row(words: &[u32]) -> bool
     requires { Stands words.now }
     ensures { result ≡ no_free_node (unpack words.now) }
 {
-    free_node_row(words) == NODE_ROWS
+    free_node_row(words).is_none()
 }
 
 pub fn lacks_rows(words: &[u32]) -> bool

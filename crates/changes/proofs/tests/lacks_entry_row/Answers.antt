@@ -1,6 +1,10 @@
--- `changes::tests::lacks_entry_row` meets its contract: the search ends behind the last row. Assumes nothing.
-use Rattle.changes.proofs.Testing.{no_entry_row}
+-- `changes::tests::lacks_entry_row` meets its contract: no row is found free. Assumes nothing.
+use Rattle.model.specs.Calls.{no_free_entry}
+use Rattle.model.specs.Tables.{free_entry}
+use Rattle.model.specs.Words.{unpack}
+use Rattle.search.proofs.Rows.{found_lacks}
 use Rattle.changes.proofs.tests.lacks_entry_row.Goals as goal
 
 pub returns : goal.returns
-returns c = no_entry_row c.args.words.now c.free_entry_row.ensures
+unfolding no_free_entry
+returns c = found_lacks free_entry (unpack c.args.words.now).entries c.free_entry_row.ensures c.is_none.ensures
