@@ -26,26 +26,26 @@ link_at_determined κs a x y s t p q = answers_once p q
 pub link_at_exit_determined : OneExit 1 link_at_kinds.ps link_at_kinds.r link_at_reads.Post (λ κs s. s.0.now)
 link_at_exit_determined κs a x y s t p q = words_once p q
 
-pub create_determined : OneResult 4 create_kinds.ps create_kinds.r create_reads.Post
+pub create_determined : OneResult 3 create_kinds.ps create_kinds.r create_reads.Post
 create_determined κs a x y s t p q = answers_once p q
 
-pub create_exit_determined : OneExit 4 create_kinds.ps create_kinds.r create_reads.Post (λ κs s. s.0.now)
+pub create_exit_determined : OneExit 3 create_kinds.ps create_kinds.r create_reads.Post (λ κs s. s.0.now)
 create_exit_determined κs a x y s t p q = words_once p q
 
-pub mkdir_determined : OneResult 4 mkdir_kinds.ps mkdir_kinds.r mkdir_reads.Post
+pub mkdir_determined : OneResult 3 mkdir_kinds.ps mkdir_kinds.r mkdir_reads.Post
 mkdir_determined κs a x y s t p q = answers_once p q
 
-pub mkdir_exit_determined : OneExit 4 mkdir_kinds.ps mkdir_kinds.r mkdir_reads.Post (λ κs s. s.0.now)
+pub mkdir_exit_determined : OneExit 3 mkdir_kinds.ps mkdir_kinds.r mkdir_reads.Post (λ κs s. s.0.now)
 mkdir_exit_determined κs a x y s t p q = words_once p q
 
-pub symlink_determined : OneResult 4 symlink_kinds.ps symlink_kinds.r symlink_reads.Post
+pub symlink_determined : OneResult 3 symlink_kinds.ps symlink_kinds.r symlink_reads.Post
 symlink_determined κs a x y s t p q = answers_once p q
 
-pub symlink_exit_determined : OneExit 4 symlink_kinds.ps symlink_kinds.r symlink_reads.Post (λ κs s. s.0.now)
+pub symlink_exit_determined : OneExit 3 symlink_kinds.ps symlink_kinds.r symlink_reads.Post (λ κs s. s.0.now)
 symlink_exit_determined κs a x y s t p q = words_once p q
 
-pub link_determined : OneResult 4 link_kinds.ps link_kinds.r link_reads.Post
+pub link_determined : OneResult 3 link_kinds.ps link_kinds.r link_reads.Post
 link_determined κs a x y s t p q = answers_once p q
 
-pub link_exit_determined : OneExit 4 link_kinds.ps link_kinds.r link_reads.Post (λ κs s. s.0.now)
+pub link_exit_determined : OneExit 3 link_kinds.ps link_kinds.r link_reads.Post (λ κs s. s.0.now)
 link_exit_determined κs a x y s t p q = words_once p q

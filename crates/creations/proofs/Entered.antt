@@ -1,34 +1,34 @@
 -- The edits of an accepted creation one behind the other. Assumes nothing.
 use mathlib.Core.Path.{◌≡◌, sym, ap, ◌∙◌}
-use mathlib.Core.Bool.{Bool, true, false, ◌||◌}
+use mathlib.Core.Bool.{Bool, false, ◌||◌}
 use mathlib.Core.List.{List}
 use Prim.Native.Nat.{ℕ, suc, ◌+◌, ◌≤◌, ◌<◌}
-use native.Mathlib.Omega.{arith}
 use native.Mathlib.Numerals.{add-one}
 use borrow.Author.Tests.{eqb-false}
 use lib.ListN.{set}
+use Rattle.std.specs.Prelude.{None}
 use Rattle.model.specs.Lists.{any, first}
-use Rattle.model.specs.Tables.{Entry, Node, Hold, Tables, free_node, node_at, with_entries, with_nodes, with_holds, node_rows}
+use Rattle.model.specs.Tables.{Entry, Node, Hold, Tables, free_node, node_at, with_entries, with_nodes, with_holds}
 use Rattle.model.specs.Walk.{Goal}
 use Rattle.model.specs.Words.{unpack}
 use Rattle.model.specs.Holds.{overruled, taking, wanted}
 use Rattle.model.specs.Calls.{absent, no_free_entry, no_free_node, new_node, set_node, add_entry, with_entry, make_at}
 use Rattle.model.specs.declared.Answer.{Answer}
 use Rattle.rows.specs.Meets.{Meets}
-use Rattle.laws.proofs.Bools.{not_false, neither_right}
-use Rattle.laws.proofs.Loops.{any_first, first_shift}
+use Rattle.laws.proofs.Bools.{clash, not_false, neither_right}
+use Rattle.laws.proofs.Loops.{first_shift}
 use Rattle.rows.specs.Stands.{Becomes}
-use Rattle.rows.proofs.Parts.{nodes_full}
 use Rattle.edits.specs.Counts.{Countable}
+use Rattle.search.specs.Rows.{first_row}
+use Rattle.search.proofs.Rows.{found_none}
 
 module _ (w : List ℕ) where
   -- where 15 does not apply there is a row for the node
-  pub node_row_there : {k : ℕ} {b : Bool} → k ≡ first free_node 0 (unpack w).nodes → b ≡ (no_free_entry (unpack w) || no_free_node (unpack w)) → b ≡ false → k < node_rows
+  pub no_row_lacks : None ≡ first_row free_node (unpack w).nodes → {b : Bool} → b ≡ (no_free_entry (unpack w) || no_free_node (unpack w)) → b ≡ false → {A : Type 0} → A
   unfolding no_free_node
-  node_row_there e q t =
-      let some : any free_node (unpack w).nodes ≡ true
-      = not_false (any free_node (unpack w).nodes) (neither_right (no_free_entry (unpack w)) (no_free_node (unpack w)) (sym q ∙ t)) in
-      omega (arith, any_first free_node (unpack w).nodes some, nodes_full w)
+  no_row_lacks e q t =
+      clash (not_false (any free_node (unpack w).nodes) (neither_right (no_free_entry (unpack w)) (no_free_node (unpack w)) (sym q ∙ t)))
+      (found_none free_node (unpack w).nodes e)
 
   pub node_number : {k : ℕ} → k ≡ first free_node 0 (unpack w).nodes → k + 1 ≡ new_node (unpack w).nodes
   unfolding new_node

@@ -38,7 +38,7 @@ pub fn link_at(words: &mut [u32], caller: Caller, new: Walk, old: Walk) -> Answe
         return Answer::Refused(NO_NAME_ROW);
     }
     let plan = plan_holds(words, caller.process, new);
-    if lacks_room(words, plan) {
+    if lacks_room(words, &plan) {
         return Answer::Refused(NO_HOLD_ROW);
     }
     let node = node_of(old);
@@ -61,11 +61,14 @@ pub fn make_at(words: &mut [u32], caller: Caller, walk: Walk, kind: u8, target: 
     if lacks_rows(words) {
         return Answer::Refused(NO_NAME_ROW);
     }
+    // There is one: the test above found it.
+    let Some(row) = free_node_row(words) else {
+        return Answer::Refused(NO_NAME_ROW);
+    };
     let plan = plan_holds(words, caller.process, walk);
-    if lacks_room(words, plan) {
+    if lacks_room(words, &plan) {
         return Answer::Refused(NO_HOLD_ROW);
     }
-    let row = free_node_row(words);
     let node = (row + 1) as u16;
     take_overruling(words, caller, walk, plan);
     add_entry(words, walk, node);

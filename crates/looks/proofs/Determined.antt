@@ -16,20 +16,20 @@ look_at_determined κs a x y s t p q = answers_once p q
 pub look_at_exit_determined : OneExit 1 look_at_kinds.ps look_at_kinds.r look_at_reads.Post (λ κs s. s.0.now)
 look_at_exit_determined κs a x y s t p q = words_once p q
 
-pub check_determined : OneResult 4 check_kinds.ps check_kinds.r check_reads.Post
+pub check_determined : OneResult 3 check_kinds.ps check_kinds.r check_reads.Post
 check_determined κs a x y s t p q = answers_once p q
 
-pub check_exit_determined : OneExit 4 check_kinds.ps check_kinds.r check_reads.Post (λ κs s. s.0.now)
+pub check_exit_determined : OneExit 3 check_kinds.ps check_kinds.r check_reads.Post (λ κs s. s.0.now)
 check_exit_determined κs a x y s t p q = words_once p q
 
-pub look_determined : OneResult 4 look_kinds.ps look_kinds.r look_reads.Post
+pub look_determined : OneResult 3 look_kinds.ps look_kinds.r look_reads.Post
 look_determined κs a x y s t p q = answers_once p q
 
-pub look_exit_determined : OneExit 4 look_kinds.ps look_kinds.r look_reads.Post (λ κs s. s.0.now)
+pub look_exit_determined : OneExit 3 look_kinds.ps look_kinds.r look_reads.Post (λ κs s. s.0.now)
 look_exit_determined κs a x y s t p q = words_once p q
 
-pub use_of_determined : OneResult 4 use_of_kinds.ps use_of_kinds.r use_of_reads.Post
+pub use_of_determined : OneResult 3 use_of_kinds.ps use_of_kinds.r use_of_reads.Post
 use_of_determined κs a x y s t p q = answers_once p q
 
-pub use_of_exit_determined : OneExit 4 use_of_kinds.ps use_of_kinds.r use_of_reads.Post (λ κs s. s.0.now)
+pub use_of_exit_determined : OneExit 3 use_of_kinds.ps use_of_kinds.r use_of_reads.Post (λ κs s. s.0.now)
 use_of_exit_determined κs a x y s t p q = words_once p q

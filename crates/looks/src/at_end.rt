@@ -40,7 +40,7 @@ pub fn look_at(words: &mut [u32], caller: Caller, walk: Walk, must_exist: bool) 
         return Answer::Seen(node);
     }
     let plan = plan_holds(words, caller.process, walk);
-    if lacks_room(words, plan) {
+    if lacks_room(words, &plan) {
         return Answer::Refused(NO_HOLD_ROW);
     }
     take_preempting(words, caller, walk, plan);

@@ -8,11 +8,9 @@ ghost use Rattle.reaching.specs.Ready.{call_in, Ready, Walks};
 pub mod at_end;
 
 use at_end::look_at;
-use index::BUCKETS;
+use index::Index;
 use model::Answer;
-use reaching::{Way, reach};
-use records::Fields;
-use rows::ENTRY_ROWS;
+use reaching::{Record, reach};
 
 // Whether a link at the last name is followed, and whether an absence is refused.
 #[derive(Clone, Copy)]
@@ -21,73 +19,45 @@ struct Manner {
     must_exist: bool,
 }
 
-fn look_along(
-    words: &mut [u32],
-    heads: &[u16; BUCKETS],
-    next: &[u16; ENTRY_ROWS],
-    bytes: &[u8],
-    fields: Fields,
-    manner: Manner,
-) -> Answer
-    requires { (Ready words.old heads.now next.now bytes.now fields) × (Walks fields) }
-    ensures { Meets words.old (looking manner.follow_last manner.must_exist (unpack words.old) (call_in bytes.now fields)) result words.new }
+fn look_along(words: &mut [u32], index: &Index, call: Record, manner: Manner) -> Answer
+    requires { (Ready words.old index.now call.bytes.now call.fields) × (Walks call.fields) }
+    ensures { Meets words.old (looking manner.follow_last manner.must_exist (unpack words.old) (call_in call.entry.bytes.now call.entry.fields)) result words.new }
 {
-    let reached = reach(words, heads, next, bytes, fields, manner.follow_last);
-    let way = reached.way;
-    let walk = reached.walk;
-    match way {
-        Way::Refused(number) => Answer::Refused(number),
-        Way::Open(caller) => look_at(words, caller, walk, manner.must_exist),
+    match reach(words, index, call, manner.follow_last) {
+        Err(number) => Answer::Refused(number),
+        Ok(reached) => look_at(words, reached.caller, reached.walk, manner.must_exist),
     }
 }
 
-pub fn check(
-    words: &mut [u32],
-    heads: &[u16; BUCKETS],
-    next: &[u16; ENTRY_ROWS],
-    bytes: &[u8],
-    fields: Fields,
-) -> Answer
-    requires { (Ready words.old heads.now next.now bytes.now fields) × (Walks fields) }
-    ensures { Meets words.old (check (unpack words.old) (call_in bytes.now fields)) result words.new }
+pub fn check(words: &mut [u32], index: &Index, call: Record) -> Answer
+    requires { (Ready words.old index.now call.bytes.now call.fields) × (Walks call.fields) }
+    ensures { Meets words.old (check (unpack words.old) (call_in call.entry.bytes.now call.entry.fields)) result words.new }
 {
     let checking = Manner {
         follow_last: true,
         must_exist: false,
     };
-    look_along(words, heads, next, bytes, fields, checking)
+    look_along(words, index, call, checking)
 }
 
-pub fn look(
-    words: &mut [u32],
-    heads: &[u16; BUCKETS],
-    next: &[u16; ENTRY_ROWS],
-    bytes: &[u8],
-    fields: Fields,
-) -> Answer
-    requires { (Ready words.old heads.now next.now bytes.now fields) × (Walks fields) }
-    ensures { Meets words.old (look (unpack words.old) (call_in bytes.now fields)) result words.new }
+pub fn look(words: &mut [u32], index: &Index, call: Record) -> Answer
+    requires { (Ready words.old index.now call.bytes.now call.fields) × (Walks call.fields) }
+    ensures { Meets words.old (look (unpack words.old) (call_in call.entry.bytes.now call.entry.fields)) result words.new }
 {
     let looking = Manner {
         follow_last: false,
         must_exist: false,
     };
-    look_along(words, heads, next, bytes, fields, looking)
+    look_along(words, index, call, looking)
 }
 
-pub fn use_of(
-    words: &mut [u32],
-    heads: &[u16; BUCKETS],
-    next: &[u16; ENTRY_ROWS],
-    bytes: &[u8],
-    fields: Fields,
-) -> Answer
-    requires { (Ready words.old heads.now next.now bytes.now fields) × (Walks fields) }
-    ensures { Meets words.old (use_of (unpack words.old) (call_in bytes.now fields)) result words.new }
+pub fn use_of(words: &mut [u32], index: &Index, call: Record) -> Answer
+    requires { (Ready words.old index.now call.bytes.now call.fields) × (Walks call.fields) }
+    ensures { Meets words.old (use_of (unpack words.old) (call_in call.entry.bytes.now call.entry.fields)) result words.new }
 {
     let using = Manner {
         follow_last: true,
         must_exist: true,
     };
-    look_along(words, heads, next, bytes, fields, using)
+    look_along(words, index, call, using)
 }

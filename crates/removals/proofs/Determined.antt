@@ -22,14 +22,14 @@ rmdir_at_determined κs a x y s t p q = answers_once p q
 pub rmdir_at_exit_determined : OneExit 1 rmdir_at_kinds.ps rmdir_at_kinds.r rmdir_at_reads.Post (λ κs s. s.0.now)
 rmdir_at_exit_determined κs a x y s t p q = words_once p q
 
-pub unlink_determined : OneResult 4 unlink_kinds.ps unlink_kinds.r unlink_reads.Post
+pub unlink_determined : OneResult 3 unlink_kinds.ps unlink_kinds.r unlink_reads.Post
 unlink_determined κs a x y s t p q = answers_once p q
 
-pub unlink_exit_determined : OneExit 4 unlink_kinds.ps unlink_kinds.r unlink_reads.Post (λ κs s. s.0.now)
+pub unlink_exit_determined : OneExit 3 unlink_kinds.ps unlink_kinds.r unlink_reads.Post (λ κs s. s.0.now)
 unlink_exit_determined κs a x y s t p q = words_once p q
 
-pub rmdir_determined : OneResult 4 rmdir_kinds.ps rmdir_kinds.r rmdir_reads.Post
+pub rmdir_determined : OneResult 3 rmdir_kinds.ps rmdir_kinds.r rmdir_reads.Post
 rmdir_determined κs a x y s t p q = answers_once p q
 
-pub rmdir_exit_determined : OneExit 4 rmdir_kinds.ps rmdir_kinds.r rmdir_reads.Post (λ κs s. s.0.now)
+pub rmdir_exit_determined : OneExit 3 rmdir_kinds.ps rmdir_kinds.r rmdir_reads.Post (λ κs s. s.0.now)
 rmdir_exit_determined κs a x y s t p q = words_once p q

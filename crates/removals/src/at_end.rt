@@ -34,7 +34,7 @@ pub fn rmdir_at(words: &mut [u32], caller: Caller, walk: Walk) -> Answer
         return Answer::Refused(HELD_BY_ANOTHER);
     }
     let plan = plan_holds(words, caller.process, walk);
-    if lacks_room(words, plan) {
+    if lacks_room(words, &plan) {
         return Answer::Refused(NO_HOLD_ROW);
     }
     take_emptying(words, caller, walk, plan);
@@ -57,7 +57,7 @@ pub fn unlink_at(words: &mut [u32], caller: Caller, walk: Walk) -> Answer
         return Answer::Refused(HELD_BY_ANOTHER);
     }
     let plan = plan_holds(words, caller.process, walk);
-    if lacks_room(words, plan) {
+    if lacks_room(words, &plan) {
         return Answer::Refused(NO_HOLD_ROW);
     }
     let node = node_of(walk);

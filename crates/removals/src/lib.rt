@@ -8,46 +8,26 @@ ghost use Rattle.reaching.specs.Ready.{call_in, Ready, Walks};
 pub mod at_end;
 
 use at_end::{rmdir_at, unlink_at};
-use index::BUCKETS;
+use index::Index;
 use model::Answer;
-use reaching::{Way, reach};
-use records::Fields;
-use rows::ENTRY_ROWS;
+use reaching::{Record, reach};
 
-pub fn unlink(
-    words: &mut [u32],
-    heads: &[u16; BUCKETS],
-    next: &[u16; ENTRY_ROWS],
-    bytes: &[u8],
-    fields: Fields,
-) -> Answer
-    requires { (Ready words.old heads.now next.now bytes.now fields) × (Walks fields) }
-    ensures { Meets words.old (unlink (unpack words.old) (call_in bytes.now fields)) result words.new }
+pub fn unlink(words: &mut [u32], index: &Index, call: Record) -> Answer
+    requires { (Ready words.old index.now call.bytes.now call.fields) × (Walks call.fields) }
+    ensures { Meets words.old (unlink (unpack words.old) (call_in call.entry.bytes.now call.entry.fields)) result words.new }
 {
-    let reached = reach(words, heads, next, bytes, fields, false);
-    let way = reached.way;
-    let walk = reached.walk;
-    match way {
-        Way::Refused(number) => Answer::Refused(number),
-        Way::Open(caller) => unlink_at(words, caller, walk),
+    match reach(words, index, call, false) {
+        Err(number) => Answer::Refused(number),
+        Ok(reached) => unlink_at(words, reached.caller, reached.walk),
     }
 }
 
-pub fn rmdir(
-    words: &mut [u32],
-    heads: &[u16; BUCKETS],
-    next: &[u16; ENTRY_ROWS],
-    bytes: &[u8],
-    fields: Fields,
-) -> Answer
-    requires { (Ready words.old heads.now next.now bytes.now fields) × (Walks fields) }
-    ensures { Meets words.old (rmdir (unpack words.old) (call_in bytes.now fields)) result words.new }
+pub fn rmdir(words: &mut [u32], index: &Index, call: Record) -> Answer
+    requires { (Ready words.old index.now call.bytes.now call.fields) × (Walks call.fields) }
+    ensures { Meets words.old (rmdir (unpack words.old) (call_in call.entry.bytes.now call.entry.fields)) result words.new }
 {
-    let reached = reach(words, heads, next, bytes, fields, false);
-    let way = reached.way;
-    let walk = reached.walk;
-    match way {
-        Way::Refused(number) => Answer::Refused(number),
-        Way::Open(caller) => rmdir_at(words, caller, walk),
+    match reach(words, index, call, false) {
+        Err(number) => Answer::Refused(number),
+        Ok(reached) => rmdir_at(words, reached.caller, reached.walk),
     }
 }

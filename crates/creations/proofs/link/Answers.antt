@@ -7,20 +7,20 @@ use Rattle.creations.proofs.link.Goals as goal
 
 pub link_at-requires : goal.link_at-requires
 link_at-requires c =
-    let goals = both_came c.requires.0 c.requires.1.0 c.requires.1.1 c.reach_both-reached.ensures c.in-Open.is in
+    let goals = both_came c.requires.0 c.requires.1.0 c.requires.1.1 c.in-Ok.ensures in
     (goals.0.behind, goals.1.countable)
 
 -- one of the paths leads nowhere
-pub returns-in-Refused : goal.returns-in-Refused
+pub returns-in-Err : goal.returns-in-Err
 unfolding link
-returns-in-Refused c = both_refused c.requires.0 c.requires.1.0 c.requires.1.1 c.reach_both-reached.ensures c.in-Refused.is _
+returns-in-Err c = both_refused c.requires.0 c.requires.1.0 c.requires.1.1 c.in-Err.ensures _
 
 -- or both to these goals
-pub returns-in-Open : goal.returns-in-Open
+pub returns-in-Ok : goal.returns-in-Ok
 unfolding link
-returns-in-Open c =
+returns-in-Ok c =
     let t = unpack c.args.words.now in
-    let bytes = c.args.bytes.now in
-    let goals = both_came c.requires.0 c.requires.1.0 c.requires.1.1 c.reach_both-reached.ensures c.in-Open.is in
-    both_go_on t (part_of bytes c.args.fields.path1) (part_of bytes c.args.fields.path2) goals.0 goals.1 (link_at t)
+    let bytes = c.args.call.bytes.now in
+    let goals = both_came c.requires.0 c.requires.1.0 c.requires.1.1 c.in-Ok.ensures in
+    both_go_on t (part_of bytes c.args.call.fields.path1) (part_of bytes c.args.call.fields.path2) goals.0 goals.1 (link_at t)
     c.link_at.ensures

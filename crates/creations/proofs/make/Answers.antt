@@ -27,21 +27,21 @@ slice_bounds-make_at-end c =
 pub make_at-requires : goal.make_at-requires
 make_at-requires c =
     let kinds = c.requires.1.1 in
-    let goal = came c.requires.0 c.requires.1.0 false c.reach-reached.ensures c.in-Open.is in
-    (goal.behind, (kinds.0, (kinds.1.0, slice_short c.args.bytes.now c.args.fields.path2 kinds.1.1)))
+    let goal = came c.requires.0 c.requires.1.0 false c.in-Ok.ensures in
+    (goal.behind, (kinds.0, (kinds.1.0, slice_short c.args.call.bytes.now c.args.call.fields.path2 kinds.1.1)))
 
 -- path 1 leads nowhere
-pub returns-in-Refused : goal.returns-in-Refused
+pub returns-in-Err : goal.returns-in-Err
 unfolding make
-returns-in-Refused c = refused_on_the_way c.requires.0 c.requires.1.0 false c.reach-reached.ensures c.in-Refused.is _
+returns-in-Err c = refused_on_the_way c.requires.0 c.requires.1.0 false c.in-Err.ensures _
 
 -- or to this goal, and the target's bytes are path 2
-pub returns-in-Open : goal.returns-in-Open
+pub returns-in-Ok : goal.returns-in-Ok
 unfolding make
-returns-in-Open c =
+returns-in-Ok c =
     let t = unpack c.args.words.now in
     let kind = c.args.kind in
-    let target = part_of c.args.bytes.now c.args.fields.path2 in
-    let goal = came c.requires.0 c.requires.1.0 false c.reach-reached.ensures c.in-Open.is in
-    let bytes = slice_part c.args.bytes.now c.args.fields.path2 in
+    let target = part_of c.args.call.bytes.now c.args.call.fields.path2 in
+    let goal = came c.requires.0 c.requires.1.0 false c.in-Ok.ensures in
+    let bytes = slice_part c.args.call.bytes.now c.args.call.fields.path2 in
     goes_on goal (make_at kind target t) (target_as kind t _ _ bytes c.make_at.ensures)

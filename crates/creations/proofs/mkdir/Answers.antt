@@ -18,5 +18,5 @@ unfolding mkdir
 returns c =
     let ready = c.requires.0 in
     let none = path2_blank ready.bytes ready.read c.requires.1.1 in
-    let call = call_in c.args.bytes.now c.args.fields in
+    let call = call_in c.args.call.bytes.now c.args.call.fields in
     meets_as (ap (λ l. make 2 l (unpack c.args.words.now) call) (sym none)) c.make.ensures

@@ -5,17 +5,16 @@ use Rattle.reaching.proofs.Ways.{came, goes_on, refused_on_the_way}
 use Rattle.looks.proofs.look_along.Goals as goal
 
 pub look_at-requires : goal.look_at-requires
-look_at-requires c = (came c.requires.0 c.requires.1 c.args.manner.follow_last c.reach-reached.ensures c.in-Open.is).behind
+look_at-requires c = (came c.requires.0 c.requires.1 c.args.manner.follow_last c.in-Ok.ensures).behind
 
 -- path 1 leads nowhere
-pub returns-in-Refused : goal.returns-in-Refused
+pub returns-in-Err : goal.returns-in-Err
 unfolding looking
-returns-in-Refused c = refused_on_the_way c.requires.0 c.requires.1 c.args.manner.follow_last c.reach-reached.ensures c.in-Refused.is _
+returns-in-Err c = refused_on_the_way c.requires.0 c.requires.1 c.args.manner.follow_last c.in-Err.ensures _
 
 -- or to this goal
-pub returns-in-Open : goal.returns-in-Open
+pub returns-in-Ok : goal.returns-in-Ok
 unfolding looking
-returns-in-Open c =
+returns-in-Ok c =
     let manner = c.args.manner in
-    let goal = came c.requires.0 c.requires.1 manner.follow_last c.reach-reached.ensures c.in-Open.is in
-    goes_on goal (look_at manner.must_exist (unpack c.args.words.now)) c.look_at.ensures
+    goes_on (came c.requires.0 c.requires.1 manner.follow_last c.in-Ok.ensures) (look_at manner.must_exist (unpack c.args.words.now)) c.look_at.ensures

@@ -6,16 +6,14 @@ use Rattle.reaching.proofs.Ways.{came, goes_on, refused_on_the_way}
 use Rattle.removals.proofs.unlink.Goals as goal
 
 pub unlink_at-requires : goal.unlink_at-requires
-unlink_at-requires c = (came c.requires.0 c.requires.1 false c.reach-reached.ensures c.in-Open.is).behind
+unlink_at-requires c = (came c.requires.0 c.requires.1 false c.in-Ok.ensures).behind
 
 -- path 1 leads nowhere
-pub returns-in-Refused : goal.returns-in-Refused
+pub returns-in-Err : goal.returns-in-Err
 unfolding unlink
-returns-in-Refused c = refused_on_the_way c.requires.0 c.requires.1 false c.reach-reached.ensures c.in-Refused.is _
+returns-in-Err c = refused_on_the_way c.requires.0 c.requires.1 false c.in-Err.ensures _
 
 -- or to this goal
-pub returns-in-Open : goal.returns-in-Open
+pub returns-in-Ok : goal.returns-in-Ok
 unfolding unlink
-returns-in-Open c =
-    let goal = came c.requires.0 c.requires.1 false c.reach-reached.ensures c.in-Open.is in
-    goes_on goal (unlink_at (unpack c.args.words.now)) c.unlink_at.ensures
+returns-in-Ok c = goes_on (came c.requires.0 c.requires.1 false c.in-Ok.ensures) (unlink_at (unpack c.args.words.now)) c.unlink_at.ensures
