@@ -33,6 +33,7 @@ pub fn is_shaped(words: &[u32]) -> bool
         && processes_shaped(words)
 }
 
+// stays: no plainer: one function for this and the next two would take the number of rows and the test as a closure, all that each of them says.
 fn entries_shaped(words: &[u32]) -> bool
     requires { length words.now ≡ word_count }
     ensures { result ≡ all entry_shaped (entry_pieces words.now) }
