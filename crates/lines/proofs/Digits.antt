@@ -1,23 +1,23 @@
 -- Decimal digits: the last one and those before it; room for more digits than a number has changes nothing. Assumes nothing.
 use mathlib.Core.Path.{◌≡◌, refl, sym, ap, ◌∙◌}
 use mathlib.Core.Bool.{Bool, true, false}
-use mathlib.Core.List.{List, [], ◌∷◌, ◌++◌}
+use mathlib.Core.List.{[], ◌∷◌, ◌++◌}
 use Prim.Native.Nat.{ℕ, zero, suc, ◌+◌, ◌^◌, ◌/◌, ◌%◌, ◌≤◌, ◌<◌}
 use native.Mathlib.Omega.{arith}
 use borrow.Author.Tests.{ltb-true, ltb-false, lt-ltb, le-ltb}
 use lib.Dec.{ltb}
 use lib.ListN.{length, length-append}
 use lib.Pow.{pow-add}
+use Rattle.std.specs.Fmt.{decimal}
+use Rattle.std.proofs.lemmas.Fmt.{decimal_by_steps}
 use Rattle.model.specs.Listing.{digits}
-use Rattle.lines.specs.Puts.{Puts}
-use Rattle.lines.proofs.Runs.{puts_both, puts_length}
 
-pub one_digit : (k : ℕ) {n : ℕ} → n < 10 → digits k n ≡ (48 + n) ∷ []
+one_digit : (k : ℕ) {n : ℕ} → n < 10 → digits k n ≡ (48 + n) ∷ []
 unfolding digits
 one_digit zero h = refl
 one_digit (suc k) {n} h = simp (lt-ltb n 10 h, digits)
 
-pub more_digits : (k : ℕ) {n : ℕ} → 10 ≤ n → digits (suc k) n ≡ digits k (n / 10) ++ ((48 + n % 10) ∷ [])
+more_digits : (k : ℕ) {n : ℕ} → 10 ≤ n → digits (suc k) n ≡ digits k (n / 10) ++ ((48 + n % 10) ∷ [])
 unfolding digits
 more_digits k {n} h = simp (le-ltb n 10 h, digits)
 
@@ -26,7 +26,7 @@ shorter : (k n : ℕ) → n < 10 ^ suc (suc k) → n / 10 < 10 ^ suc k
 shorter k n h = let e = pow-add 10 1 (suc k) in omega arith
 
 -- as many digits as the number has are enough, and more change nothing
-pub alike_digits : (k m n : ℕ) → n < 10 ^ suc k → n < 10 ^ suc m → digits k n ≡ digits m n
+alike_digits : (k m n : ℕ) → n < 10 ^ suc k → n < 10 ^ suc m → digits k n ≡ digits m n
 alike_digits zero m n h l = let s : n < 10 = h in one_digit 0 s ∙ sym (one_digit m s)
 alike_digits (suc k) zero n h l = let s : n < 10 = l in one_digit (suc k) s ∙ sym (one_digit 0 s)
 alike_digits (suc k) (suc m) n h l = go (ltb n 10) refl (alike_digits k m (n / 10) (shorter k n h) (shorter m n l))
@@ -48,35 +48,15 @@ digit_count (suc k) n = go (ltb n 10) refl (digit_count k (n / 10))
 
 -- A NUMBER OF 64 BITS: 20 digits are enough
 
-pub last_digit : {n : ℕ} → n < 2 ^ 64 → 10 ≤ n → digits 19 n ≡ digits 19 (n / 10) ++ ((48 + n % 10) ∷ [])
+last_digit : {n : ℕ} → n < 2 ^ 64 → 10 ≤ n → digits 19 n ≡ digits 19 (n / 10) ++ ((48 + n % 10) ∷ [])
 last_digit {n} f h = more_digits 18 h ∙ ap (λ l. l ++ ((48 + n % 10) ∷ [])) (alike_digits 18 19 (n / 10) (omega arith) (omega arith))
 
 -- five digits are enough for a number of 16 bits
 pub five_digits : {n : ℕ} → n < 2 ^ 16 → digits 19 n ≡ digits 4 n
 five_digits {n} h = alike_digits 19 4 n (omega arith) (omega arith)
 
--- WRITTEN INTO A LIST
-
--- one digit
-module _ {n : ℕ} (h : n < 10) where
-  pub one_fits : {at size : ℕ} → at + length (digits 19 n) ≤ size → at < size
-  one_fits f = let e = ap length (one_digit 19 h) in omega arith
-
-  pub puts_one_digit : {l m : List ℕ} {at end byte : ℕ} → byte ≡ 48 + n → Puts l at (byte ∷ []) end m → Puts l at (digits 19 n) end m
-  puts_one_digit e p = rw (one_digit 19 h) (rw e at p)
-
--- the last digit behind the others
-module _ {n : ℕ} (b : n < 2 ^ 64) (h : 10 ≤ n) where
-  one_more : length (digits 19 n) ≡ suc (length (digits 19 (n / 10)))
-  one_more = ap length (last_digit b h) ∙ simp length-append (omega arith)
-
-  pub others_fit : (at : ℕ) {size : ℕ} → at + length (digits 19 n) ≤ size → at + length (digits 19 (n / 10)) ≤ size
-  others_fit at f = omega (arith, one_more)
-
-  pub last_fits : {l m : List ℕ} {at end : ℕ} → at + length (digits 19 n) ≤ length l → Puts l at (digits 19 (n / 10)) end m
-      → end < length m
-  last_fits f p = omega (arith, one_more, p.end_is, puts_length p)
-
-  pub puts_last_digit : {l m o : List ℕ} {at j end byte : ℕ} → Puts l at (digits 19 (n / 10)) j m → byte ≡ 48 + n % 10
-      → Puts m j (byte ∷ []) end o → Puts l at (digits 19 n) end o
-  puts_last_digit p e q = rw (last_digit b h) (puts_both p (rw e at q))
+-- so they are what is printed of it
+pub printed : (n : ℕ) → n < 2 ^ 64 → decimal n ≡ digits 19 n
+printed n f =
+    decimal_by_steps (λ n ds. n < 2 ^ 64 → ds ≡ digits 19 n) (λ n h f. sym (one_digit 19 h))
+    (λ n ds h tens f. ap (λ l. l ++ ((48 + n % 10) ∷ [])) (tens (omega arith)) ∙ sym (last_digit f h)) n f f

@@ -1,19 +1,11 @@
 #![tactic(auto)]
 // Numbers and texts written into a lent slice, and the line that they make. Document 01, 'The listing'.
-ghost use Rattle.std.specs.Prelude.{◌≡◌, [], ◌∷◌, ◌+◌, ◌≤◌, ◌<◌, length};
+ghost use Rattle.std.specs.Prelude.{[], ◌∷◌, ◌+◌, ◌≤◌, ◌<◌, length};
 ghost use Rattle.model.specs.Listing.{digits, line};
 ghost use Rattle.lines.specs.Puts.{Puts, line_around};
 
+use itoa::Buffer;
 use model::Answer;
-
-// A decimal digit as a byte.
-fn digit(number: u64) -> u8
-    requires { number < 10 }
-    ensures { result ≡ 48 + number }
-{
-    // stays: the number is below ten; `try_from` would ask for a refusal that can't come, so the cast is no less plain.
-    b'0' + number as u8
-}
 
 // Writes one byte, and answers the place behind it.
 fn put_byte(out: &mut [u8], at: usize, byte: u8) -> usize
@@ -24,19 +16,6 @@ fn put_byte(out: &mut [u8], at: usize, byte: u8) -> usize
     at + 1
 }
 
-// Writes the decimal digits of the number from `at` on, and answers the place behind them.
-// stays: std prints into a String, which takes a heap, and a rule of the project has none.
-fn put_digits(out: &mut [u8], at: usize, number: u64) -> usize
-    requires { at + length (digits 19 number) ≤ length out.old }
-    ensures { Puts out.old at (digits 19 number) result out.new }
-{
-    if number < 10 {
-        return put_byte(out, at, digit(number));
-    }
-    let end = put_digits(out, at, number / 10);
-    put_byte(out, end, digit(number % 10))
-}
-
 // Copies the text from `at` on, and answers the place behind it.
 fn put_text(out: &mut [u8], at: usize, text: &[u8]) -> usize
     requires { at + length text.now ≤ length out.old }
@@ -45,6 +24,14 @@ fn put_text(out: &mut [u8], at: usize, text: &[u8]) -> usize
     let end = at + text.len();
     out[at..end].copy_from_slice(text);
     end
+}
+
+// Writes the decimal digits of the number from `at` on, and answers the place behind them.
+fn put_digits(out: &mut [u8], at: usize, number: u64) -> usize
+    requires { at + length (digits 19 number) ≤ length out.old }
+    ensures { Puts out.old at (digits 19 number) result out.new }
+{
+    put_text(out, at, Buffer::new().format(number).as_bytes())
 }
 
 // Writes a line at the front: the place, the word with a space on either side, and the number.
