@@ -1,12 +1,17 @@
--- The arms of the dispatch: which of the model's calls each number is. Assumes nothing.
-use mathlib.Core.Path.{◌≡◌, refl}
-use mathlib.Core.Logic.{◌≢◌}
-use Prim.Native.Nat.{ℕ, zero, suc, ◌-◌, ◌≤◌}
+-- The arms of the dispatch: which of the model's calls each number is, and what its record rests on. Assumes nothing.
+use mathlib.Core.Path.{◌≡◌}
+use mathlib.Core.Bool.{true}
+use mathlib.Core.List.{List}
+use Prim.Native.Nat.{ℕ, suc, ◌-◌, ◌≤◌}
 use native.Mathlib.Omega.{arith}
 use Rattle.model.specs.Refusals.{Outcome, refused}
 use Rattle.model.specs.Tables.{Tables}
-use Rattle.model.specs.Records.{Call}
+use Rattle.model.specs.Records.{Call, known}
 use Rattle.model.specs.Calls.{Change, enter, fork, exec, exit, check, look, use_of, create, mkdir, symlink, link, unlink, rmdir, step}
+use Rattle.index.specs.Indexed.{Index}
+use Rattle.records.specs.declared.Fields.{Fields}
+use Rattle.reaching.specs.Ready.{Ready, ReadyWhereKnown}
+use Rattle.reaching.proofs.Cells.{known_by}
 
 -- THE CALL OF EACH NUMBER
 
@@ -68,30 +73,23 @@ module _ (t : Tables) (r : Call) where
 
 -- NO OTHER NUMBER
 
-past : {n c : ℕ} → n ≤ c → c ≢ n → suc n ≤ c
-past {n} {c} low other = omega arith
-
 -- at least fourteen is fourteen and something
 less_fourteen : (c : ℕ) → 14 ≤ c → c ≡ suc (suc (suc (suc (suc (suc (suc (suc (suc (suc (suc (suc (suc (suc (c - 14))))))))))))))
 less_fourteen c h = omega arith
 
 module _ (t : Tables) (r : Call) where
-  no_call : r.call ≡ 0 → step t r ≡ refused 2
+  pub step_none : r.call ≡ 0 → step t r ≡ refused 2
   unfolding step
-  no_call e = rw e
+  step_none e = rw e
 
   behind_all : (n : ℕ) → r.call ≡ suc (suc (suc (suc (suc (suc (suc (suc (suc (suc (suc (suc (suc (suc n))))))))))))) → step t r ≡ refused 2
   unfolding step
   behind_all n e = rw e
 
-  -- a number that is none of the calls' is refused with 2
-  pub step_unknown : r.call ≢ 1 → r.call ≢ 2 → r.call ≢ 3 → r.call ≢ 4 → r.call ≢ 5 → r.call ≢ 6 → r.call ≢ 7 → r.call ≢ 8
-      → r.call ≢ 9 → r.call ≢ 10 → r.call ≢ 11 → r.call ≢ 12 → r.call ≢ 13 → step t r ≡ refused 2
-  step_unknown a b c d e f g h i j k l m = go r.call refl
-    where
-      go : (n : ℕ) → r.call ≡ n → step t r ≡ refused 2
-      go zero is = no_call is
-      go (suc n) is =
-          let low : 1 ≤ r.call = omega arith in
-          let end = past (past (past (past (past (past (past (past (past (past (past (past (past low a) b) c) d) e) f) g) h) i) j) k) l) m in
-          behind_all (r.call - 14) (less_fourteen r.call end)
+  pub step_beyond : 14 ≤ r.call → step t r ≡ refused 2
+  step_beyond h = behind_all (r.call - 14) (less_fourteen r.call h)
+
+-- WHAT A CALL'S RECORD RESTS ON
+
+pub at_call : {w s : List ℕ} {index : Index} {f : Fields} → ReadyWhereKnown w index s f → (n : ℕ) → known n ≡ true → f.call ≡ n → Ready w index s f
+at_call {f = f} ready n k e = ready (known_by f n k e)

@@ -6,43 +6,35 @@ ghost use Rattle.rows.specs.Meets.{Meets};
 ghost use Rattle.reaching.specs.Ready.{call_in, ReadyWhereKnown};
 
 use creations::{create, link, mkdir, symlink};
-use index::BUCKETS;
+use index::Index;
 use looks::{check, look, use_of};
 use model::{Answer, BAD_FIELD};
 use processes::enter::enter;
 use processes::exec::exec;
 use processes::exit::exit;
 use processes::fork::fork;
-use records::Fields;
+use reaching::Record;
 use removals::{rmdir, unlink};
-use rows::ENTRY_ROWS;
 
-pub fn dispatch(
-    words: &mut [u32],
-    heads: &[u16; BUCKETS],
-    next: &[u16; ENTRY_ROWS],
-    bytes: &[u8],
-    fields: Fields,
-) -> Answer
-    requires { ReadyWhereKnown words.old heads.now next.now bytes.now fields }
-    ensures { Meets words.old (step (unpack words.old) (call_in bytes.now fields)) result words.new }
+pub fn dispatch(words: &mut [u32], index: &Index, call: Record) -> Answer
+    requires { ReadyWhereKnown words.old index.now call.bytes.now call.fields }
+    ensures { Meets words.old (step (unpack words.old) (call_in call.entry.bytes.now call.entry.fields)) result words.new }
 {
-    let call = fields.call;
-    match call {
+    let fields = call.fields;
+    match fields.call {
         1 => enter(words, fields.process, fields.argument),
         2 => fork(words, fields.process, fields.argument),
         3 => exec(words, fields.process),
         4 => exit(words, fields.process),
-        5 => check(words, heads, next, bytes, fields),
-        6 => look(words, heads, next, bytes, fields),
-        7 => use_of(words, heads, next, bytes, fields),
-        8 => create(words, heads, next, bytes, fields),
-        9 => mkdir(words, heads, next, bytes, fields),
-        10 => symlink(words, heads, next, bytes, fields),
-        11 => link(words, heads, next, bytes, fields),
-        12 => unlink(words, heads, next, bytes, fields),
-        13 => rmdir(words, heads, next, bytes, fields),
-        14..=31 => Answer::Refused(BAD_FIELD),
-        _ => Answer::Refused(BAD_FIELD),
+        5 => check(words, index, call),
+        6 => look(words, index, call),
+        7 => use_of(words, index, call),
+        8 => create(words, index, call),
+        9 => mkdir(words, index, call),
+        10 => symlink(words, index, call),
+        11 => link(words, index, call),
+        12 => unlink(words, index, call),
+        13 => rmdir(words, index, call),
+        0 | 14.. => Answer::Refused(BAD_FIELD),
     }
 }
