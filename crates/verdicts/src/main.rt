@@ -98,7 +98,8 @@ fn list_all(rt: &HostRuntime, words: &mut [u32], bytes: &mut [u8], out: &mut [u8
 
 fn main(rt: HostRuntime) {
     let mut words = [0u32; WORD_COUNT];
-    fresh::fresh(&mut words);
+    // These words are as many as are asked for, so they are not refused.
+    let _ = fresh::fresh(&mut words);
     let mut bytes = [0u8; INPUT_BYTES];
     let mut out = [0u8; OUTPUT_BYTES];
     list_all(&rt, &mut words, &mut bytes, &mut out);
