@@ -34,6 +34,9 @@ use Rattle.rows.proofs.bytes_at.Kinds as bytes_at_kinds
 use Rattle.rows.proofs.bytes_at.Reads as bytes_at_reads
 use Rattle.rows.proofs.target_in.Kinds as target_in_kinds
 use Rattle.rows.proofs.target_in.Reads as target_in_reads
+use Rattle.rows.proofs.KindNumbers.{same_kind}
+use Rattle.rows.proofs.kind_of.Kinds as kind_of_kinds
+use Rattle.rows.proofs.kind_of.Reads as kind_of_reads
 use Rattle.rows.proofs.row_of_node.Kinds as row_of_node_kinds
 use Rattle.rows.proofs.row_of_node.Reads as row_of_node_reads
 use Rattle.rows.proofs.node_kind.Kinds as node_kind_kinds
@@ -83,8 +86,11 @@ entry_node_determined κs a x y s t p q = p ∙ sym q
 pub entry_name_determined : OneResult 1 entry_name_kinds.ps entry_name_kinds.r entry_name_reads.Post
 entry_name_determined κs a x y s t p q = p ∙ sym q
 
+pub kind_of_determined : OneResult 0 kind_of_kinds.ps kind_of_kinds.r kind_of_reads.Post
+kind_of_determined κs a x y s t p q = same_kind x y (p ∙ sym q)
+
 pub kind_in_determined : OneResult 1 kind_in_kinds.ps kind_in_kinds.r kind_in_reads.Post
-kind_in_determined κs a x y s t p q = p ∙ sym q
+kind_in_determined κs a x y s t p q = same_kind x y (p ∙ sym q)
 
 pub count_in_determined : OneResult 1 count_in_kinds.ps count_in_kinds.r count_in_reads.Post
 count_in_determined κs a x y s t p q = p ∙ sym q
@@ -109,7 +115,7 @@ pub row_of_node_determined : OneResult 0 row_of_node_kinds.ps row_of_node_kinds.
 row_of_node_determined κs a x y s t p q = one_row _ x y p q
 
 pub node_kind_determined : OneResult 1 node_kind_kinds.ps node_kind_kinds.r node_kind_reads.Post
-node_kind_determined κs a x y s t p q = p ∙ sym q
+node_kind_determined κs a x y s t p q = same_kind x y (p ∙ sym q)
 
 pub node_count_determined : OneResult 1 node_count_kinds.ps node_count_kinds.r node_count_reads.Post
 node_count_determined κs a x y s t p q = p ∙ sym q

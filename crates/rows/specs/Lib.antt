@@ -1,4 +1,5 @@
 pub mod Blocks
+pub mod Kinds
 pub mod Meets
 pub mod Rows
 pub mod Stands

@@ -6,6 +6,7 @@ ghost use Rattle.model.specs.Paths.{longest_name, longest_target};
 ghost use Rattle.model.specs.Tables.{entry_rows, node_rows, hold_rows, process_rows, node_at};
 ghost use Rattle.model.specs.Words.{bytes, unpack};
 ghost use Rattle.rows.specs.Blocks.{block_in, block_of, same_block, target_words, word_from};
+ghost use Rattle.rows.specs.Kinds.{kind_number, number_of};
 ghost use Rattle.rows.specs.Stands.{Stands, entry_row, node_row, hold_row, process_row};
 
 // Where the rows of each table start, the entries at the front, and how many words a row has; a process has one.
@@ -57,12 +58,21 @@ pub const LENGTH_VALUES: u32 = 128;
 
 pub const COUNT_VALUES: u32 = 1024;
 
-// The kinds of a node, 0 for a free row.
-pub const FILE: u8 = 1;
+// The kinds of a node, each by its number in the words; a free row has 0, and no kind.
+#[derive(Clone, Copy, PartialEq, Eq)]
+pub enum Kind {
+    File = 1,
+    Directory = 2,
+    Link = 3,
+}
 
-pub const DIRECTORY: u8 = 2;
-
-pub const LINK: u8 = 3;
+impl Kind {
+    pub fn number(self) -> u8
+        ensures { result ≡ number_of self }
+    {
+        self as u8
+    }
+}
 
 // The node of `/`.
 pub const ROOT: u16 = 1;
@@ -229,11 +239,24 @@ pub fn entry_name(words: &[u32], row: usize) -> Block
 
 // NODES, by row; node n is row n - 1
 
-pub fn kind_in(words: &[u32], row: usize) -> u8
-    requires { (Stands words.now) × (row < node_rows) }
-    ensures { result ≡ (node_row words.now row).kind }
+// The kind that two bits of a node's first word say.
+pub fn kind_of(bits: u8) -> Option<Kind>
+    requires { bits < 4 }
+    ensures { kind_number result ≡ bits }
 {
-    top_bits(words[NODES_START + row * NODE_WIDTH])
+    match bits {
+        1 => Some(Kind::File),
+        2 => Some(Kind::Directory),
+        3 => Some(Kind::Link),
+        _ => None,
+    }
+}
+
+pub fn kind_in(words: &[u32], row: usize) -> Option<Kind>
+    requires { (Stands words.now) × (row < node_rows) }
+    ensures { kind_number result ≡ (node_row words.now row).kind }
+{
+    kind_of(top_bits(words[NODES_START + row * NODE_WIDTH]))
 }
 
 pub fn count_in(words: &[u32], row: usize) -> u16
@@ -282,14 +305,12 @@ pub fn row_of_node(node: u16) -> Option<usize>
     if row < NODE_ROWS { Some(row) } else { None }
 }
 
-pub fn node_kind(words: &[u32], node: u16) -> u8
+pub fn node_kind(words: &[u32], node: u16) -> Option<Kind>
     requires { Stands words.now }
-    ensures { result ≡ (node_at (unpack words.now).nodes node).kind }
+    ensures { kind_number result ≡ (node_at (unpack words.now).nodes node).kind }
 {
-    match row_of_node(node) {
-        Some(row) => kind_in(words, row),
-        None => 0,
-    }
+    let row = row_of_node(node)?;
+    kind_in(words, row)
 }
 
 pub fn node_count(words: &[u32], node: u16) -> u16

@@ -4,4 +4,4 @@ use Rattle.rows.proofs.Fields.{node_kind_is}
 use Rattle.rows.proofs.kind_in.Goals as goal
 
 pub returns : goal.returns
-returns c = c.top_bits.ensures ∙ node_kind_is c.requires.0 c.args.row c.requires.1
+returns c = c.kind_of.ensures ∙ c.top_bits.ensures ∙ node_kind_is c.requires.0 c.args.row c.requires.1
