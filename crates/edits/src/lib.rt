@@ -9,12 +9,13 @@ ghost use Rattle.model.specs.Tables.{with_entries, with_nodes, with_holds, with_
 ghost use Rattle.model.specs.Calls.{set_node, one_more, one_less};
 ghost use Rattle.model.specs.Words.{entry_words, node_words, hold_words, all_node_words, all_hold_words, all_process_words, words, unpack};
 ghost use Rattle.rows.specs.Blocks.{target_words};
+ghost use Rattle.rows.specs.Kinds.{number_of};
 ghost use Rattle.rows.specs.Rows.{entry_of, hold_of, named_as_words, hold_as_words, GoodEntry, GoodHold};
 ghost use Rattle.rows.specs.Stands.{Stands, Becomes, node_row};
 ghost use Rattle.edits.specs.Nodes.{node_as_words, with_count};
 
 use rows::{
-    Block, COUNT_UNIT, ENTRY_WIDTH, EntryRow, HOLD_WIDTH, HOLDS_START, HoldRow, LENGTH_UNIT,
+    Block, COUNT_UNIT, ENTRY_WIDTH, EntryRow, HOLD_WIDTH, HOLDS_START, HoldRow, Kind, LENGTH_UNIT,
     NODE_WIDTH, NODES_START, PROCESSES_START, ROLE_PLACE, TARGET_WORDS, TOP_UNIT, UPPER_UNIT,
     WORD_COUNT, count_in, four_bytes, row_of_node,
 };
@@ -73,11 +74,11 @@ pub fn clear_entry(words: &mut [u32], row: usize)
 
 // NODES, by row
 
-fn node_head(kind: u8, length: usize, count: u16) -> u32
-    requires { (kind < 4) × ((length < 128) × (count < 1024)) }
-    ensures { result ≡ kind * 1073741824 + length * 8388608 + count * 8192 }
+fn node_head(kind: Kind, length: usize, count: u16) -> u32
+    requires { (length < 128) × (count < 1024) }
+    ensures { result ≡ number_of kind * 1073741824 + length * 8388608 + count * 8192 }
 {
-    u32::from(kind) * TOP_UNIT + length as u32 * LENGTH_UNIT + u32::from(count) * COUNT_UNIT
+    u32::from(kind.number()) * TOP_UNIT + length as u32 * LENGTH_UNIT + u32::from(count) * COUNT_UNIT
 }
 
 // The target's bytes, four to a word, and zeros behind them.
@@ -90,18 +91,18 @@ fn put_target(nodes: &mut [u32], at: usize, target: &[u8])
     }
 }
 
-fn put_node(nodes: &mut [u32], row: usize, kind: u8, count: u16, target: &[u8])
-    requires { (length nodes.old ≡ all_node_words) × ((row < node_rows) × ((kind < 4) × ((count < 1024) × (length target.now ≤ longest_target)))) }
-    ensures { nodes.new ≡ sets nodes.old (row * node_words) (node_as_words kind count target.now) }
+fn put_node(nodes: &mut [u32], row: usize, kind: Kind, count: u16, target: &[u8])
+    requires { (length nodes.old ≡ all_node_words) × ((row < node_rows) × ((count < 1024) × (length target.now ≤ longest_target))) }
+    ensures { nodes.new ≡ sets nodes.old (row * node_words) (node_as_words (number_of kind) count target.now) }
 {
     let at = row * NODE_WIDTH;
     nodes[at] = node_head(kind, target.len(), count);
     put_target(nodes, at + 1, target);
 }
 
-pub fn set_node(words: &mut [u32], row: usize, kind: u8, count: u16, target: &[u8])
-    requires { (Stands words.old) × ((row < node_rows) × ((1 ≤ kind) × ((kind < 4) × ((count < 1024) × (length target.now ≤ longest_target))))) }
-    ensures { Becomes words.new (with_nodes (unpack words.old) (set (unpack words.old).nodes row (record { kind = kind; count = count; target = target.now }))) }
+pub fn set_node(words: &mut [u32], row: usize, kind: Kind, count: u16, target: &[u8])
+    requires { (Stands words.old) × ((row < node_rows) × ((count < 1024) × (length target.now ≤ longest_target))) }
+    ensures { Becomes words.new (with_nodes (unpack words.old) (set (unpack words.old).nodes row (record { kind = number_of kind; count = count; target = target.now }))) }
 {
     put_node(
         &mut words[NODES_START..HOLDS_START],
