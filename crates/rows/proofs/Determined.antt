@@ -37,6 +37,10 @@ use Rattle.rows.proofs.target_in.Reads as target_in_reads
 use Rattle.rows.proofs.KindNumbers.{same_kind}
 use Rattle.rows.proofs.kind_of.Kinds as kind_of_kinds
 use Rattle.rows.proofs.kind_of.Reads as kind_of_reads
+use Rattle.rows.proofs.Kind.number.Kinds as number_kinds
+use Rattle.rows.proofs.Kind.number.Reads as number_reads
+use Rattle.rows.proofs.is_kind.Kinds as is_kind_kinds
+use Rattle.rows.proofs.is_kind.Reads as is_kind_reads
 use Rattle.rows.proofs.row_of_node.Kinds as row_of_node_kinds
 use Rattle.rows.proofs.row_of_node.Reads as row_of_node_reads
 use Rattle.rows.proofs.node_kind.Kinds as node_kind_kinds
@@ -116,6 +120,12 @@ row_of_node_determined κs a x y s t p q = one_row _ x y p q
 
 pub node_kind_determined : OneResult 1 node_kind_kinds.ps node_kind_kinds.r node_kind_reads.Post
 node_kind_determined κs a x y s t p q = same_kind x y (p ∙ sym q)
+
+pub number_determined : OneResult 0 number_kinds.ps number_kinds.r number_reads.Post
+number_determined κs a x y s t p q = p ∙ sym q
+
+pub is_kind_determined : OneResult 1 is_kind_kinds.ps is_kind_kinds.r is_kind_reads.Post
+is_kind_determined κs a x y s t p q = p ∙ sym q
 
 pub node_count_determined : OneResult 1 node_count_kinds.ps node_count_kinds.r node_count_reads.Post
 node_count_determined κs a x y s t p q = p ∙ sym q

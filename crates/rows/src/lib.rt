@@ -1,6 +1,6 @@
 #![tactic(auto)]
 // The lent words read by row and field, and where each table, row and field stands in them; `edits`, `shape` and `fresh` take it from here.
-ghost use Rattle.std.specs.Prelude.{◌≡◌, ◌⊎◌, ◌+◌, ◌*◌, ◌/◌, ◌%◌, ◌≤◌, ◌<◌, MatchOption, length, get_or, take, drop};
+ghost use Rattle.std.specs.Prelude.{◌≡◌, ◌⊎◌, ◌+◌, ◌*◌, ◌/◌, ◌%◌, ◌≤◌, ◌<◌, MatchOption, eqb, length, get_or, take, drop};
 ghost use Rattle.model.specs.Lists.{filled};
 ghost use Rattle.model.specs.Paths.{longest_name, longest_target};
 ghost use Rattle.model.specs.Tables.{entry_rows, node_rows, hold_rows, process_rows, node_at};
@@ -311,6 +311,13 @@ pub fn node_kind(words: &[u32], node: u16) -> Option<Kind>
 {
     let row = row_of_node(node)?;
     kind_in(words, row)
+}
+
+pub fn is_kind(words: &[u32], node: u16, kind: Kind) -> bool
+    requires { Stands words.now }
+    ensures { result ≡ eqb (node_at (unpack words.now).nodes node).kind (number_of kind) }
+{
+    node_kind(words, node) == Some(kind)
 }
 
 pub fn node_count(words: &[u32], node: u16) -> u16
