@@ -9,7 +9,7 @@ ghost use Rattle.reaching.specs.Behind.{Behind};
 
 use goals::{Stop, Walk, is_absent, node_of};
 use holds::{entry_held, inside_held, is_root};
-use rows::{DIRECTORY, node_kind};
+use rows::{Kind, is_kind};
 use search::{Caller, free_entry_row, free_node_row};
 
 pub fn is_present(walk: Walk) -> bool
@@ -22,7 +22,7 @@ pub fn leads_to_directory(words: &[u32], walk: Walk) -> bool
     requires { Stands words.now }
     ensures { result ≡ is_directory (unpack words.now).nodes (goal_of walk).node }
 {
-    node_kind(words, node_of(walk)) == DIRECTORY
+    is_kind(words, node_of(walk), Kind::Directory)
 }
 
 fn stops_at_root(walk: Walk) -> bool

@@ -5,11 +5,11 @@ ghost use Rattle.model.specs.Serve.{made_fresh};
 ghost use Rattle.fresh.specs.Prepared.{Prepares};
 
 use model::UNSOUND;
-use rows::{DIRECTORY, NODES_START, TOP_UNIT, WORD_COUNT};
+use rows::{Kind, NODES_START, TOP_UNIT, WORD_COUNT};
 
 // The first word of a directory to which no entry leads.
 // stays: no plainer, a constant's value can't call `u32::from`.
-const EMPTY_DIRECTORY: u32 = DIRECTORY as u32 * TOP_UNIT;
+const EMPTY_DIRECTORY: u32 = Kind::Directory as u32 * TOP_UNIT;
 
 fn clear_all(words: &mut [u32])
     ensures { words.new ≡ replicate (length words.old) 0 }

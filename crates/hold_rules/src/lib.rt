@@ -14,7 +14,7 @@ ghost use Rattle.hold_rules.specs.Chains.{hold_buckets, hold_bucket, place_bucke
 use index::{Links, sum_of};
 use process_index::{ProcessIndex, is_in_index, user_in_index};
 use rows::{
-    DIRECTORY, END, HOLD_ROWS, hold_directory, hold_name, hold_process, hold_role, node_kind,
+    END, HOLD_ROWS, Kind, hold_directory, hold_name, hold_process, hold_role, is_kind,
 };
 use search::hold_is_on;
 
@@ -94,7 +94,7 @@ fn hold_placed(words: &[u32], index: &ProcessIndex, row: usize) -> bool
         return true;
     }
     let process = hold_process(words, row);
-    node_kind(words, directory) == DIRECTORY && process != 0 && is_in_index(words, index, process)
+    is_kind(words, directory, Kind::Directory) && process != 0 && is_in_index(words, index, process)
 }
 
 fn bucket_of_place(words: &[u32], row: usize) -> usize

@@ -134,7 +134,7 @@ pub fn free_node_row(words: &[u32]) -> Option<usize>
     requires { Stands words.now }
     ensures { result ≡ first_row free_node (unpack words.now).nodes }
 {
-    (0..NODE_ROWS).find(|row| kind_in(words, *row) == 0)
+    (0..NODE_ROWS).find(|row| kind_in(words, *row).is_none())
 }
 
 pub fn free_hold_row(words: &[u32]) -> Option<usize>

@@ -12,9 +12,12 @@ use names::is_good_name;
 use paths::valid_target;
 use rows::{
     Block, COUNT_UNIT, ELEMENT, END, ENTRY_ROWS, ENTRY_WIDTH, HOLD_ROWS, HOLD_WIDTH, HOLDS_START,
-    LINK, NODE_ROWS, NODE_WIDTH, NODES_START, PROCESSES_START, ROLE_PLACE, TARGET_BYTES,
+    Kind, NODE_ROWS, NODE_WIDTH, NODES_START, PROCESSES_START, ROLE_PLACE, TARGET_BYTES,
     TARGET_WORDS, TOP_UNIT, UPPER_UNIT, WORD_COUNT, block_at, bytes_at, length_bits, top_bits,
 };
+
+// A link's kind, in the top bits of a word that may say anything.
+const LINK: u8 = Kind::Link as u8;
 
 // The words of the two roles, in the top bits.
 // stays: no plainer: a constant can't call u32::from.

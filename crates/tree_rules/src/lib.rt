@@ -8,7 +8,7 @@ ghost use Rattle.rows.specs.Stands.{Stands, entry_row, node_row};
 ghost use Rattle.tree_rules.specs.Tallied.{tree_rules, leads, counted_right, counted_fit, counters, Tallied};
 
 use rows::{
-    DIRECTORY, ENTRY_ROWS, NODE_ROWS, ROOT, count_in, entry_directory, entry_node, kind_in,
+    ENTRY_ROWS, Kind, NODE_ROWS, ROOT, count_in, entry_directory, entry_node, is_kind, kind_in,
     node_count, node_kind, wide,
 };
 
@@ -41,15 +41,15 @@ fn entry_leads(words: &[u32], row: usize) -> bool
 {
     let directory = entry_directory(words, row);
     directory == 0
-        || (node_kind(words, directory) == DIRECTORY
-            && node_kind(words, entry_node(words, row)) != 0)
+        || (is_kind(words, directory, Kind::Directory)
+            && node_kind(words, entry_node(words, row)).is_some())
 }
 
 fn first_right(words: &[u32]) -> bool
     requires { Stands words.now }
     ensures { result ≡ first_node_right (unpack words.now) }
 {
-    node_kind(words, ROOT) == DIRECTORY && node_count(words, ROOT) == 0
+    is_kind(words, ROOT, Kind::Directory) && node_count(words, ROOT) == 0
 }
 
 fn tally(words: &[u32], counts: &mut [u16; COUNTS])
@@ -76,7 +76,7 @@ fn count_right(words: &[u32], counts: &[u16; COUNTS], row: usize) -> bool
     requires { (Stands words.now) × ((Tallied words.now counts.now) × (row < node_rows)) }
     ensures { result ≡ counted_right (unpack words.now).entries (1 + row) (node_row words.now row) }
 {
-    kind_in(words, row) == 0 || count_in(words, row) == counts[row + 1]
+    kind_in(words, row).is_none() || count_in(words, row) == counts[row + 1]
 }
 
 fn all_counts_fit(words: &[u32]) -> bool
@@ -94,8 +94,9 @@ fn count_fits(words: &[u32], row: usize) -> bool
         return true;
     }
     match kind_in(words, row) {
-        0 => true,
-        DIRECTORY => count_in(words, row) == 1,
-        _ => count_in(words, row) >= 1,
+        None => true,
+        Some(Kind::Directory) => count_in(words, row) == 1,
+        Some(Kind::File) => count_in(words, row) >= 1,
+        Some(Kind::Link) => count_in(words, row) >= 1,
     }
 }

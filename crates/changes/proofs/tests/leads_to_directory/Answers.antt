@@ -8,5 +8,4 @@ use Rattle.changes.proofs.tests.leads_to_directory.Goals as goal
 pub returns : goal.returns
 unfolding is_directory
 returns c =
-    ap (λ k. eqb k 2) c.node_kind.ensures
-    ∙ ap (λ n. eqb (node_at (unpack c.args.words.now).nodes n).kind 2) c.node_of.ensures
+    c.is_kind.ensures ∙ ap (λ n. eqb (node_at (unpack c.args.words.now).nodes n).kind 2) c.node_of.ensures
