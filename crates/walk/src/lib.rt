@@ -21,7 +21,7 @@ use index::{Index, find_entry, node_found};
 use model::{NAME_IS_FILE, NAME_MISSING, NINTH_LINK};
 use paths::{Part, SLASH, next_name};
 use rows::{
-    Block, DIRECTORY, LINK, ROOT, block_from, entry_directory, entry_name, node_kind, target_in,
+    Block, Kind, ROOT, block_from, entry_directory, entry_name, is_kind, node_kind, target_in,
 };
 
 const LINKS: usize = 8;
@@ -129,7 +129,7 @@ fn resolve(
     let found = find_entry(words, index, directory, name);
     let node = node_found(words, found);
     match found {
-        Some(row) if follow && node_kind(words, node) == LINK => {
+        Some(row) if follow && is_kind(words, node, Kind::Link) => {
             follow_link(words, index, node, row, trail)
         }
         _ => Ok(Stretch {
@@ -171,9 +171,10 @@ fn only_directory(words: &[u32], node: u16) -> Result<(), u8>
     ensures { result ≡ only_directory (unpack words.now).nodes node }
 {
     match node_kind(words, node) {
-        0 => Err(NAME_MISSING),
-        DIRECTORY => Ok(()),
-        _ => Err(NAME_IS_FILE),
+        None => Err(NAME_MISSING),
+        Some(Kind::Directory) => Ok(()),
+        Some(Kind::File) => Err(NAME_IS_FILE),
+        Some(Kind::Link) => Err(NAME_IS_FILE),
     }
 }
 

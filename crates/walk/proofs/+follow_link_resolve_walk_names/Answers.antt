@@ -5,7 +5,7 @@ use mathlib.Core.Logic.{inl, inr, ◌⊎◌, ◌≢◌}
 use mathlib.Core.List.{List, [], ◌∷◌}
 use Prim.Native.Nat.{ℕ, ◌+◌, ◌-◌, ◌≤◌}
 use native.Mathlib.Omega.{arith}
-use borrow.Author.Tests.{eq-eqb, ne_eqb}
+use borrow.Author.Tests.{eq-eqb, ne_eqb, eqb-true, eqb-false}
 use lib.Dec.{eqb}
 use lib.ListN.{length, get_or, take, drop}
 use Rattle.std.proofs.Common.{Fits, w8}
@@ -31,7 +31,7 @@ use Rattle.walk.proofs.Steps.{TargetRead, link_in_range, target_read, started, n
 use Rattle.walk.proofs.Steps.{in_no_directory, node_met, nothing_found, resolves_link, stops_at_entry}
 use Rattle.walk.proofs.Steps.{NextName, next_name_met, block_names, Met, stops_by_slash, last_resolved, refused_whole, stopped_on_the_way, walks_on}
 use Rattle.walk.proofs.+follow_link_resolve_walk_names.Goals as goal
-use Rattle.walk.proofs.+follow_link_resolve_walk_names.Goals.{resolve-in_default-via-in-Some+then-follow+else-node_kind-eq-LINK}
+use Rattle.walk.proofs.+follow_link_resolve_walk_names.Goals.{resolve-in_default-via-in-Some+then-follow+else-is_kind}
 use Rattle.walk.proofs.+follow_link_resolve_walk_names.Goals.{resolve-in_default-via-in-Some+else-follow, resolve-in_default-via-in_default}
 
 -- FOLLOWING A LINK
@@ -103,7 +103,7 @@ resolve-returns-in-Some t c =
     let w = c.args.words.now in
     let met = node_met c.requires.ready c.args.name c.find_entry-found.ensures.0 c.node_found-node.ensures in
     resolves_link w (sound_walkable w c.requires.ready.sound) c.args.trail c.args.name c.node_found-node.result met c.args.follow
-    (Some c.in-Some.row) c.in-Some.ensures.0 c.if-follow.true (sym c.node_kind.ensures ∙ c.if-node_kind-eq-LINK.true) c.follow_link.ensures
+    (Some c.in-Some.row) c.in-Some.ensures.0 c.if-follow.true (eqb-true _ 3 (sym c.is_kind.ensures ∙ c.if-is_kind.true)) c.follow_link.ensures
 
 pub resolve-returns-in_default : goal.resolve-returns-in_default
 resolve-returns-in_default t c =
@@ -112,7 +112,7 @@ resolve-returns-in_default t c =
     let met = node_met c.requires.ready c.args.name c.find_entry-found.ensures.0 c.node_found-node.ensures in
     let stays : ((node_at (unpack w).nodes node).kind ≢ a_link) ⊎ (c.args.follow ≡ false) =
     elim c.in_default.branch [
-      | resolve-in_default-via-in-Some+then-follow+else-node_kind-eq-LINK v ↦ inl (λ k. v.if-node_kind-eq-LINK.false (v.node_kind.ensures ∙ k))
+      | resolve-in_default-via-in-Some+then-follow+else-is_kind v ↦ inl (eqb-false _ 3 (sym v.is_kind.ensures ∙ v.if-is_kind.false))
       | resolve-in_default-via-in-Some+else-follow v ↦ inr v.if-follow.false
       | resolve-in_default-via-in_default v ↦ inl (nothing_found w node c.node_found-node.ensures v.in_default.is)
     ] in
