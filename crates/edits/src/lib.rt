@@ -50,7 +50,7 @@ fn put_named(part: &mut [u32], at: usize, upper: u16, lower: u16, name: Block)
 
 // ENTRIES
 
-// stays: what is set or cleared in each table has its own clause on that table; each body is one call that lends the table's part, no plainer.
+// stays: no plainer: what is set or cleared in each table has its own clause on that table, and each body is one call that lends its part.
 pub fn set_entry(words: &mut [u32], row: usize, entry: EntryRow)
     requires { (Stands words.old) × ((row < entry_rows) × (GoodEntry entry)) }
     ensures { Becomes words.new (with_entries (unpack words.old) (set (unpack words.old).entries row (entry_of entry))) }
@@ -74,6 +74,7 @@ pub fn clear_entry(words: &mut [u32], row: usize)
 
 // NODES, by row
 
+// stays: no plainer: `length as u32` is shown exact by the proof, and `try_from` would bring an Err that nothing can reach.
 fn node_head(kind: Kind, length: usize, count: u16) -> u32
     requires { (length < 128) × (count < 1024) }
     ensures { result ≡ number_of kind * 1073741824 + length * 8388608 + count * 8192 }

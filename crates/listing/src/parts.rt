@@ -17,6 +17,7 @@ pub fn list_part(words: &mut [u32], bytes: &[u8], last: bool, place: u64, out: &
     let mut from = 0;
     let mut at = 0;
     let mut place = place;
+    // stays: no plainer: how far a step takes them is known behind it alone, so that no range or iterator counts these three.
     let (length, stop) = loop {
         let rest = &bytes[from..];
         let setting = Setting {

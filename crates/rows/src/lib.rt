@@ -78,6 +78,7 @@ impl Kind {
 pub const ROOT: u16 = 1;
 
 // The roles of a hold, 0 for a free row.
+// stays: what may not change: `hold_role` promises the number for any words that stand, and `set_hold` takes any role below 4.
 pub const END: u8 = 1;
 
 pub const ELEMENT: u8 = 2;
@@ -109,13 +110,14 @@ pub struct HoldRow {
 }
 
 // A link's target: its bytes, filled up with zeros, and how many they are.
+// stays: what may not change: `target_in` promises the zeros behind the target too, which a list of its bytes alone would not have.
 #[derive(Clone, Copy)]
 pub struct Target {
     pub length: usize,
     pub bytes: [u8; TARGET_BYTES],
 }
 
-// stays: each of these `as` is shown exact by the proof, and `try_from` would bring an Err that nothing can reach; no plainer.
+// stays: no plainer: each `as` that narrows here is shown exact by the proof, and `try_from` would bring an Err that nothing can reach.
 fn upper_half(word: u32) -> u16
     ensures { result ≡ word / 65536 }
 {
@@ -189,6 +191,7 @@ pub fn four_bytes(path: &[u8], from: usize, count: usize, k: usize) -> u32
 }
 
 // The block of the name that stands in the path: `count` bytes from `from` on.
+// stays: no plainer: `count as u8` is shown exact by the proof, as above.
 pub fn block_from(path: &[u8], from: usize, count: usize) -> Block
     requires { (from + count ≤ length path.now) × (count ≤ longest_name) }
     ensures { result ≡ block_of (take count (drop from path.now)) }
@@ -207,6 +210,7 @@ pub fn block_from(path: &[u8], from: usize, count: usize) -> Block
     }
 }
 
+#[tactic(auto, unfolding(crate::specs::Blocks::same_block))]
 pub fn same_blocks(a: Block, b: Block) -> bool
     ensures { result ≡ same_block a b }
 {
@@ -215,7 +219,8 @@ pub fn same_blocks(a: Block, b: Block) -> bool
 
 // ENTRIES
 
-// stays: each field of each table has one line and a clause on its own table; one generic would take both as ghosts, which is no plainer.
+// stays: a rule of the project: document 01 wants the tables as one lent slice of words read by row and field, so that Stands is asked of the slice.
+// stays: no plainer: each field of each table has one line and a clause on its own table; one generic would take both as ghosts.
 pub fn entry_directory(words: &[u32], row: usize) -> u16
     requires { (Stands words.now) × (row < entry_rows) }
     ensures { result ≡ (entry_row words.now row).place.directory }
