@@ -7,6 +7,7 @@ ghost use Rattle.edits.specs.Counts.{Countable};
 ghost use Rattle.model.specs.Calls.{link_at};
 ghost use Rattle.model.specs.Calls.{make_at};
 ghost use Rattle.model.specs.Words.{unpack};
+ghost use Rattle.rows.specs.Kinds.{number_of};
 ghost use Rattle.rows.specs.Meets.{Meets};
 
 use changes::entry::add_entry;
@@ -16,6 +17,7 @@ use edits::{add_one_entry, set_node};
 use goals::{Walk, is_absent, node_of};
 use model::{ABSENT, Answer, HELD_BY_ANOTHER, NO_HOLD_ROW, NO_NAME_ROW, PRESENT, WRONG_KIND};
 use plans::{lacks_room, plan_holds};
+use rows::Kind;
 use search::{Caller, free_node_row};
 
 pub fn link_at(words: &mut [u32], caller: Caller, new: Walk, old: Walk) -> Answer
@@ -48,9 +50,9 @@ pub fn link_at(words: &mut [u32], caller: Caller, new: Walk, old: Walk) -> Answe
     Answer::Done(node)
 }
 
-pub fn make_at(words: &mut [u32], caller: Caller, walk: Walk, kind: u8, target: &[u8]) -> Answer
-    requires { (Behind words.old caller walk) × ((1 ≤ kind) × ((kind < 4) × (length target.now ≤ longest_target))) }
-    ensures { Meets words.old (make_at kind target.now (unpack words.old) caller.process (goal_of walk)) result words.new }
+pub fn make_at(words: &mut [u32], caller: Caller, walk: Walk, kind: Kind, target: &[u8]) -> Answer
+    requires { (Behind words.old caller walk) × (length target.now ≤ longest_target) }
+    ensures { Meets words.old (make_at (number_of kind) target.now (unpack words.old) caller.process (goal_of walk)) result words.new }
 {
     if is_present(walk) {
         return Answer::Refused(PRESENT);

@@ -4,6 +4,7 @@ ghost use Rattle.std.specs.Prelude.{◌≡◌, ◌≤◌, ◌<◌};
 ghost use Rattle.model.specs.Calls.{make, create, mkdir, symlink, link};
 ghost use Rattle.model.specs.Words.{unpack};
 ghost use Rattle.records.specs.Reading.{part_of};
+ghost use Rattle.rows.specs.Kinds.{number_of};
 ghost use Rattle.rows.specs.Meets.{Meets};
 ghost use Rattle.reaching.specs.Ready.{call_in, Ready, Walks, WalksTwice};
 ghost use Rattle.model.specs.Paths.{longest_target};
@@ -15,12 +16,12 @@ use at_end::{link_at, make_at};
 use index::Index;
 use model::Answer;
 use reaching::{Record, reach, reach_both};
-use rows::{DIRECTORY, FILE, LINK};
+use rows::Kind;
 
 // A new node of this kind at the end of path 1. Path 2 is its target, and blank for all but a link.
-fn make(words: &mut [u32], index: &Index, call: Record, kind: u8) -> Answer
-    requires { (Ready words.old index.now call.bytes.now call.fields) × ((Walks call.fields) × ((1 ≤ kind) × ((kind < 4) × (call.fields.path2.length ≤ longest_target)))) }
-    ensures { Meets words.old (make kind (part_of call.entry.bytes.now call.entry.fields.path2) (unpack words.old) (call_in call.entry.bytes.now call.entry.fields)) result words.new }
+fn make(words: &mut [u32], index: &Index, call: Record, kind: Kind) -> Answer
+    requires { (Ready words.old index.now call.bytes.now call.fields) × ((Walks call.fields) × (call.fields.path2.length ≤ longest_target)) }
+    ensures { Meets words.old (make (number_of kind) (part_of call.entry.bytes.now call.entry.fields.path2) (unpack words.old) (call_in call.entry.bytes.now call.entry.fields)) result words.new }
 {
     let target = call.fields.path2;
     let start = target.start;
@@ -41,21 +42,21 @@ pub fn create(words: &mut [u32], index: &Index, call: Record) -> Answer
     requires { (Ready words.old index.now call.bytes.now call.fields) × ((Walks call.fields) × ((row_of call.fields.call).path2 ≡ blank)) }
     ensures { Meets words.old (create (unpack words.old) (call_in call.entry.bytes.now call.entry.fields)) result words.new }
 {
-    make(words, index, call, FILE)
+    make(words, index, call, Kind::File)
 }
 
 pub fn mkdir(words: &mut [u32], index: &Index, call: Record) -> Answer
     requires { (Ready words.old index.now call.bytes.now call.fields) × ((Walks call.fields) × ((row_of call.fields.call).path2 ≡ blank)) }
     ensures { Meets words.old (mkdir (unpack words.old) (call_in call.entry.bytes.now call.entry.fields)) result words.new }
 {
-    make(words, index, call, DIRECTORY)
+    make(words, index, call, Kind::Directory)
 }
 
 pub fn symlink(words: &mut [u32], index: &Index, call: Record) -> Answer
     requires { (Ready words.old index.now call.bytes.now call.fields) × ((Walks call.fields) × ((row_of call.fields.call).path2 ≡ target)) }
     ensures { Meets words.old (symlink (unpack words.old) (call_in call.entry.bytes.now call.entry.fields)) result words.new }
 {
-    make(words, index, call, LINK)
+    make(words, index, call, Kind::Link)
 }
 
 // The new entry goes to the end of path 1, and leads to the node that path 2 leads to.

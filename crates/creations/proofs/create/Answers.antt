@@ -1,6 +1,5 @@
 -- `creations::create` meets its contract: path 2 is blank. Assumes nothing.
 use mathlib.Core.Path.{ap, sym}
-use native.Mathlib.Omega.{arith}
 use Rattle.model.specs.Calls.{create, make}
 use Rattle.model.specs.Words.{unpack}
 use Rattle.rows.proofs.Meeting.{meets_as}
@@ -11,7 +10,7 @@ use Rattle.creations.proofs.create.Goals as goal
 pub make-requires : goal.make-requires
 make-requires c =
     let ready = c.requires.0 in
-    (ready, (c.requires.1.0, (omega arith, (omega arith, blank_short ready.bytes ready.read c.requires.1.1))))
+    (ready, (c.requires.1.0, blank_short ready.bytes ready.read c.requires.1.1))
 
 pub returns : goal.returns
 unfolding create

@@ -6,6 +6,7 @@ use Rattle.model.specs.Words.{unpack}
 use Rattle.records.specs.Reading.{part_of}
 use Rattle.reaching.proofs.Accepting.{path2_within, slice_part, slice_short}
 use Rattle.reaching.proofs.Ways.{came, goes_on, refused_on_the_way}
+use Rattle.rows.specs.Kinds.{number_of}
 use Rattle.creations.proofs.Entered.{target_as}
 use Rattle.creations.proofs.make.Goals as goal
 
@@ -26,9 +27,8 @@ slice_bounds-make_at-end c =
 
 pub make_at-requires : goal.make_at-requires
 make_at-requires c =
-    let kinds = c.requires.1.1 in
     let goal = came c.requires.0 c.requires.1.0 false c.in-Ok.ensures in
-    (goal.behind, (kinds.0, (kinds.1.0, slice_short c.args.call.bytes.now c.args.call.fields.path2 kinds.1.1)))
+    (goal.behind, slice_short c.args.call.bytes.now c.args.call.fields.path2 c.requires.1.1)
 
 -- path 1 leads nowhere
 pub returns-in-Err : goal.returns-in-Err
@@ -40,7 +40,7 @@ pub returns-in-Ok : goal.returns-in-Ok
 unfolding make
 returns-in-Ok c =
     let t = unpack c.args.words.now in
-    let kind = c.args.kind in
+    let kind = number_of c.args.kind in
     let target = part_of c.args.call.bytes.now c.args.call.fields.path2 in
     let goal = came c.requires.0 c.requires.1.0 false c.in-Ok.ensures in
     let bytes = slice_part c.args.call.bytes.now c.args.call.fields.path2 in

@@ -12,6 +12,7 @@ use Rattle.rows.proofs.Parts.{nodes_full}
 use Rattle.search.proofs.Rows.{found_row}
 use Rattle.rows.proofs.Meeting.{refuses, passes, grants}
 use Rattle.goals.specs.Goals.{goal_of}
+use Rattle.rows.specs.Kinds.{number_of}
 use Rattle.creations.proofs.Entered.{entered, no_row_lacks, node_made, node_number}
 use Rattle.creations.proofs.at_end.make_at.Goals as goal
 
@@ -49,15 +50,14 @@ overflow_cast-node c =
 
 pub set_node-requires : goal.set_node-requires
 set_node-requires c =
-    let kind = c.requires.1 in
     let found = found_row free_node (unpack c.args.words.now).nodes c.in-Some.ensures in
-    (c.add_entry.ensures.stands, (omega (arith, found.inside, nodes_full c.args.words.now), (kind.0, (kind.1.0, (omega arith, kind.1.1)))))
+    (c.add_entry.ensures.stands, (omega (arith, found.inside, nodes_full c.args.words.now), (omega arith, c.requires.1)))
 
 pub returns : goal.returns
 unfolding make_at
 returns c =
     let w = c.args.words.now in
-    let node : Node = record { kind = c.args.kind; count = 1; target = c.args.target.now } in
+    let node : Node = record { kind = number_of c.args.kind; count = 1; target = c.args.target.now } in
     let found = found_row free_node (unpack w).nodes c.in-Some.ensures in
     let number = node_number w found.is in
     let changed = entered (unpack w) (goal_of c.args.walk) c.args.caller.process (λ l. set l c.in-Some.row node) node number
