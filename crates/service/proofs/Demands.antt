@@ -5,7 +5,7 @@ use mathlib.Core.Bool.{true}
 use mathlib.Core.Logic.{◌≢◌, ◌⊎◌}
 use mathlib.Core.List.{List, [], ◌∷◌}
 use Prim.Native.Nat.{ℕ, ◌+◌}
-use native.Mathlib.Omega.{arith}
+use Rattle.std.specs.Prelude.{Result, Err}
 use Rattle.model.specs.Refusals.{Outcome, refused, granted}
 use Rattle.model.specs.Tables.{user_of}
 use Rattle.model.specs.Words.{unpack}
@@ -21,15 +21,10 @@ use Rattle.invariants.proofs.Accounting.{used_entries, is_creation, is_removal}
 use Rattle.invariants.proofs.Kept as kept
 use Rattle.invariants.proofs.Kept.{accepted_calls}
 use Rattle.records.specs.Packing.{answered, Packs}
-use Rattle.records.specs.declared.Packing.{Packing}
-use Rattle.records.specs.declared.Packing.TheVariants as packings
 use Rattle.guard.proofs.Demand3.{check_call, use_call, Asks, AllByAnotherUser, Order, others_first, last_first, Undisturbed}
 use Rattle.guard.proofs.Guard.{demand_3}
 use Rattle.guard.proofs.WrongServices.{Service, Promised}
 use Rattle.service.specs.Serves.{verdict_of, Serves}
-
-length_not_refused : (m n : ℕ) → ◌≡◌ {A = Packing} (packings.Length m) (packings.Refused n) → ⊥
-length_not_refused m n e = let z : ◌≡◌ {A = ℕ} 0 1 = cc in omega arith
 
 -- ONE RECORD
 
@@ -55,14 +50,14 @@ module _ {w s v : List ℕ} {r : Verdict} (serves : Serves w s r v) where
   taken_is = ap (λ (x : Verdict). x.taken) serves.verdict
 
 -- Demand 1: a refused packing writes nothing.
-pub refused_pack_writes_nothing : {c : Call} {before after : List ℕ} {r : Packing} {n : ℕ} → Packs c before r after → r ≡ packings.Refused n
+pub refused_pack_writes_nothing : {c : Call} {before after : List ℕ} {r : Result ℕ ℕ} {n : ℕ} → Packs c before r after → r ≡ Err n
     → after ≡ before
 unfolding answered packed
 refused_pack_writes_nothing {c = c} {before = before} {n = n} packs e = packs.bytes ∙ go (packing c before) (sym packs.answer ∙ e)
   where
-    go : (o : Outcome ℕ) → answered o ≡ packings.Refused n → packed c before o ≡ before
+    go : (o : Outcome ℕ) → answered o ≡ Err n → packed c before o ≡ before
     go (refused m) f = refl
-    go (granted m) f = absurd (length_not_refused m n f)
+    go (granted m) f = cc
 
 -- ANY SERVICE
 

@@ -7,10 +7,10 @@ ghost use Rattle.rows.specs.Meets.{Meets};
 ghost use Rattle.service.specs.Serves.{Serves};
 
 use dispatch::dispatch;
-use index::BUCKETS;
+use index::Index;
 use model::{Answer, SHORT_RECORD, UNSOUND, Verdict};
+use reaching::Record;
 use records::{Reading, is_cut_short, read, taken_of};
-use rows::ENTRY_ROWS;
 use soundness::sound_and_index;
 
 // Serves the record at the front of the bytes: the answer and the bytes taken. A refusal changes no word.
@@ -31,13 +31,15 @@ fn judge(words: &mut [u32], bytes: &[u8], found: Reading) -> Answer
     if is_cut_short(found) {
         return Answer::Refused(SHORT_RECORD);
     }
-    let mut heads = [0u16; BUCKETS];
-    let mut next = [0u16; ENTRY_ROWS];
-    if !sound_and_index(words, &mut heads, &mut next) {
+    let mut index = Index::new();
+    if !sound_and_index(words, &mut index) {
         return Answer::Refused(UNSOUND);
     }
     match found {
-        Reading::Refused { number, taken: _ } => Answer::Refused(number),
-        Reading::Accepted { fields, taken: _ } => dispatch(words, &heads, &next, bytes, fields),
+        Err(rejected) => Answer::Refused(rejected.number),
+        Ok(accepted) => {
+            let fields = accepted.fields;
+            dispatch(words, &index, Record { bytes, fields })
+        }
     }
 }

@@ -22,16 +22,16 @@ dispatch-requires c =
       indexed = c.sound_and_index.ensures.1 c.if-not-sound_and_index.false;
       bytes = each_by_place c.args.bytes.now 0 (λ i h. omega (arith, c.type_inv.bytes i));
       taken = _;
-      read = sym c.requires ∙ c.in-Accepted.is;
+      read = sym c.requires ∙ c.in-Ok.is;
     }
 
-pub returns-in-Refused : goal.returns-in-Refused
-returns-in-Refused c =
+pub returns-in-Err : goal.returns-in-Err
+returns-in-Err c =
     judged_broken c.args.words.now c.args.bytes.now c.args.found c.requires c.is_cut_short.ensures
-    c.if-is_cut_short.false c.sound_and_index.ensures.0 (ap not c.if-not-sound_and_index.false) c.in-Refused.is
+    c.if-is_cut_short.false c.sound_and_index.ensures.0 (ap not c.if-not-sound_and_index.false) c.in-Err.is
 
-pub returns-in-Accepted : goal.returns-in-Accepted
-returns-in-Accepted c =
+pub returns-in-Ok : goal.returns-in-Ok
+returns-in-Ok c =
     judged_call c.args.words.now c.args.bytes.now c.args.found c.requires c.is_cut_short.ensures
-    c.if-is_cut_short.false c.sound_and_index.ensures.0 (ap not c.if-not-sound_and_index.false) c.in-Accepted.is
+    c.if-is_cut_short.false c.sound_and_index.ensures.0 (ap not c.if-not-sound_and_index.false) c.in-Ok.is
     c.dispatch.ensures
