@@ -29,8 +29,8 @@ pub told_answer_determined : OneResult 0 told_answer_kinds.ps told_answer_kinds.
 told_answer_determined κs a x y s t p q = p ∙ sym q
 
 -- the index at exit is one of those that fit the words, so it is not fixed
-pub tested_determined : OneResult 4 tested_kinds.ps tested_kinds.r tested_reads.Post
+pub tested_determined : OneResult 3 tested_kinds.ps tested_kinds.r tested_reads.Post
 tested_determined κs a x y s t p q = p.0.verdict ∙ sym q.0.verdict
 
-pub tested_words_determined : OneExit 4 tested_kinds.ps tested_kinds.r tested_reads.Post (λ κs s. s.0.now)
+pub tested_words_determined : OneExit 3 tested_kinds.ps tested_kinds.r tested_reads.Post (λ κs s. s.0.now)
 tested_words_determined κs a x y s t p q = p.0.words ∙ sym q.0.words

@@ -7,10 +7,11 @@ use Rattle.model.specs.Refusals.{Outcome, refused, granted}
 use Rattle.model.specs.Tables.{Entry, Tables, entry_rows}
 use Rattle.model.specs.Words.{unpack}
 use Rattle.model.specs.Sound.{entries_distinct, sound}
-use Rattle.model.specs.Records.{Call, calls, keeps_entries, row_of, taken}
+use Rattle.model.specs.Records.{Call, calls, keeps_entries, row_of, short, taken}
 use Rattle.model.specs.Calls.{Change, step}
-use Rattle.model.specs.Serve.{Served, judged, serve}
+use Rattle.model.specs.Serve.{Served, judged, judged_with, serve}
 use Rattle.model.specs.declared.Answer.{Answer}
+use Rattle.model.specs.declared.Answer.TheVariants.{Refused}
 use Rattle.laws.proofs.Bools.{clash}
 use Rattle.invariants.proofs.Cases.{Gives, Saw, seen, held, Step, by_enter, by_fork, by_exec, by_exit, by_check, by_look, by_use, by_create, by_mkdir, by_symlink, by_link, by_unlink, by_rmdir, step_cases}
 use Rattle.invariants.proofs.Kept.{sound_kept}
@@ -19,11 +20,13 @@ use Rattle.invariants.proofs.Served.{accepted, granted_accepts, granted_in_order
 use Rattle.laws.proofs.Words.{unpack_pack}
 use Rattle.rows.specs.Stands.{Stands}
 use Rattle.index.specs.Buckets.{Chained}
-use Rattle.index.specs.Indexed.{entry_chains, Indexed}
+use Rattle.index.specs.Indexed.{entry_chains, Index, Indexed}
 use Rattle.records.specs.declared.Fields.{Fields}
 use Rattle.records.specs.Reading.{cut_short, reading}
 use Rattle.rows.specs.Meets.{answer_of, words_of, Meets}
-use Rattle.rows.proofs.Meeting.{served_is}
+use Rattle.rows.proofs.Meeting.{refuses, served_is}
+use Rattle.service.specs.Serves.{Serves}
+use Rattle.service.proofs.Verdicts.{serves_by}
 use Rattle.reaching.specs.Ready.{call_in, Ready}
 use Rattle.reaching.proofs.Judging.{judged_step}
 use Rattle.reaching.proofs.Walking.{stands_sound}
@@ -36,21 +39,26 @@ words_served : (w s : List ℕ) {v : List ℕ} {a : Answer} → Meets w (judged 
 unfolding serve
 words_served w s m = m.words ∙ sym (ap (λ (o : Served). o.words) (served_is w (taken s) (judged w s)))
 
+-- a record that is cut short is refused with 17, and takes nothing
+pub short_served : {w s v : List ℕ} → short s ≡ true → v ≡ w → Serves w s (record { answer = Refused 17; taken = 0 }) v
+unfolding judged judged_with taken
+short_served {w} {s} e same = rw same (serves_by (refuses 17 (short s) _ refl e) (rw (e, taken) refl))
+
 pub entries_apart : (w : List ℕ) → sound w ≡ true → entries_distinct (unpack w) ≡ true
 unfolding entries_distinct
 entries_apart w e = (words_in_order w e).sound.tree.distinct_entries
 
-pub tested_as : {w heads next : List ℕ} {b : Bool} → b ≡ true → Tested w heads next true → Tested w heads next b
+pub tested_as : {w : List ℕ} {index : Index} {b : Bool} → b ≡ true → Tested w index true → Tested w index b
 tested_as e t = rw e t
 
 -- THE INDEX
 
-index_kept : {w v heads next : List ℕ} → Indexed w heads next → Stands v → (unpack v).entries ≡ (unpack w).entries → Indexed v heads next
+index_kept : {w v : List ℕ} {index : Index} → Indexed w index → Stands v → (unpack v).entries ≡ (unpack w).entries → Indexed v index
 unfolding entries_distinct
-index_kept {w} {v} {heads} {next} i stands e =
+index_kept {w} {v} {index} i stands e =
     record {
       stands = stands;
-      chained = subst (λ (es : List Entry). Chained (entry_chains es) heads next entry_rows) (sym e) i.chained;
+      chained = subst (λ (es : List Entry). Chained (entry_chains es) index.heads index.next entry_rows) (sym e) i.chained;
       distinct = rw e i.distinct;
     }
 
@@ -87,7 +95,7 @@ keepers_leave t r c keeper e = go (step_cases t r c e)
 
 -- ONE CALL
 
-module _ {w heads next s : List ℕ} {f : Fields} (ready : Ready w heads next s f) {a : Answer} {v : List ℕ}
+module _ {w s : List ℕ} {index : Index} {f : Fields} (ready : Ready w index s f) {a : Answer} {v : List ℕ}
     (m : Meets w (step (unpack w) (call_in s f)) a v) where
   judged_is : judged w s ≡ step (unpack w) (call_in s f)
   unfolding cut_short
@@ -112,11 +120,11 @@ module _ {w heads next s : List ℕ} {f : Fields} (ready : Ready w heads next s 
       go true keeper _ = keepers_leave (unpack w) (call_in s f) c keeper e
       go false _ refusing = clash (granted_accepts w s c (accepted w s c (judged_is ∙ e))) (refuses (accepts c.answer) refusing)
 
-  pub index_after : leaves_entries f.call a ≡ true → Indexed v heads next
+  pub index_after : leaves_entries f.call a ≡ true → Indexed v index
   unfolding answer_of words_of
   index_after leaves = go (step (unpack w) (call_in s f)) refl m.answer m.words
     where
-      go : (o : Outcome Change) → step (unpack w) (call_in s f) ≡ o → a ≡ answer_of o → v ≡ words_of w o → Indexed v heads next
+      go : (o : Outcome Change) → step (unpack w) (call_in s f) ≡ o → a ≡ answer_of o → v ≡ words_of w o → Indexed v index
       go (refused n) e answer words = rw words ready.indexed
       go (granted c) e answer words =
           let is = accepted w s c (judged_is ∙ e) in

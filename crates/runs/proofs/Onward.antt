@@ -10,15 +10,13 @@ use lib.Seq.{length-take-le, take-length, drop-drop, drop-set-lt, take-suc-set}
 use Rattle.model.specs.Lists.{joined}
 use Rattle.model.specs.Records.{short, taken}
 use Rattle.model.specs.Answers.{answer_slot}
-use Rattle.model.specs.Serve.{judged, serve, after, answers, whole_records, Ran, run}
-use Rattle.model.specs.declared.Answer.{Answer}
+use Rattle.model.specs.Serve.{serve, after, answers, whole_records, Ran, run}
+use Rattle.model.specs.declared.Verdict.{Verdict}
 use Rattle.invariants.proofs.Records.{whole, taken_there, serve_front}
-use Rattle.records.specs.declared.Reading.{Reading}
-use Rattle.records.specs.Reading.{cut_short, reading, taken_of}
-use Rattle.records.proofs.ThereAndBack.{reading_takes}
-use Rattle.rows.specs.Meets.{Meets}
-use Rattle.rows.proofs.Meeting.{served_is}
-use Rattle.reaching.proofs.Judging.{short_found}
+use Rattle.index.specs.Indexed.{Index}
+use Rattle.service.specs.Serves.{Serves}
+use Rattle.service.proofs.Demands.{answer_is, taken_is}
+use Rattle.service.proofs.Verdicts.{serve_takes}
 use Rattle.runs.specs.Runs.{told_run}
 use Rattle.runs.specs.Tested.{Tested}
 
@@ -89,48 +87,60 @@ onward_goes n at w r these slots h =
 -- THE LOOP
 
 -- so many records and bytes are done; v, the index and the slots `filled` are what that left
-pub record Going (w s slots v heads next filled : List ℕ) (is_sound : Bool) (served at : ℕ) : Type 0 where
-  pub tested : Tested v heads next is_sound
+pub record Going (w s slots v : List ℕ) (index : Index) (filled : List ℕ) (is_sound : Bool) (served at : ℕ) : Type 0 where
+  pub tested : Tested v index is_sound
   pub words_long : length v ≡ length w
   pub slots_long : length filled ≡ length slots
   pub inside : at ≤ length s
   pub same : onward served at v (whole_records (length slots - served) (drop at s)) filled ≡ run w s slots
 
-pub going_starts : {w s slots heads next : List ℕ} {b : Bool} → Tested w heads next b → Going w s slots w heads next slots b 0 0
+pub going_starts : {w s slots : List ℕ} {index : Index} {b : Bool} → Tested w index b → Going w s slots w index slots b 0 0
 going_starts {w} {s} {slots} t =
     let all : length slots - 0 ≡ length slots = omega arith in
     record { tested = t; words_long = refl; slots_long = refl; inside = omega arith; same = rw all (onward_starts w s slots) }
 
-module _ {w s slots v heads next filled : List ℕ} {b : Bool} {n at : ℕ} (going : Going w s slots v heads next filled b n at) where
-  pub stops_short : short (drop at s) ≡ true → told_run (record { served = n; taken = at }) v filled ≡ run w s slots
-  stops_short e =
-      onward_ends n at v filled
-      ∙ ap (λ (l : List (List ℕ)). onward n at v l filled) (sym (no_more (length slots - n) (drop at s) e))
-      ∙ going.same
-
+module _ {w s slots v : List ℕ} {index : Index} {filled : List ℕ} {b : Bool} {n at : ℕ} (going : Going w s slots v index filled b n at) where
   pub stops_full : length filled ≤ n → told_run (record { served = n; taken = at }) v filled ≡ run w s slots
   unfolding whole_records
   stops_full h =
       let none : 0 ≡ length slots - n = omega (arith, going.slots_long) in
       onward_ends n at v filled ∙ ap (λ (k : ℕ). onward n at v (whole_records k (drop at s)) filled) none ∙ going.same
 
+  -- no whole record is left
+  pub stops_short : short (take (length s - at) (drop at s)) ≡ true → {u : List ℕ} → u ≡ v
+      → told_run (record { served = n; taken = at }) u filled ≡ run w s slots
+  stops_short e same =
+      let none = rw (rest_of s at) at e in
+      rw same
+      (onward_ends n at v filled
+      ∙ ap (λ (l : List (List ℕ)). onward n at v l filled) (sym (no_more (length slots - n) (drop at s) none))
+      ∙ going.same)
+
   -- a whole record is left, and was served
-  module _ (there : short (drop at s) ≡ false) where
-    pub next_inside : at + taken (drop at s) ≤ length s
-    next_inside =
+  module _ (whole_part : short (take (length s - at) (drop at s)) ≡ false) {r : Verdict} {u : List ℕ} (part : Serves v (take (length s - at) (drop at s)) r u) where
+    there : short (drop at s) ≡ false
+    there = rw (rest_of s at) at whole_part
+
+    serves : Serves v (drop at s) r u
+    serves = rw (rest_of s at) at part
+
+    takes : r.taken ≡ taken (drop at s)
+    takes = taken_is serves ∙ serve_takes v (drop at s)
+
+    pub next_within : at + r.taken ≤ length s
+    next_within =
         let l = length-drop at s in
         let fits = taken_there (whole (drop at s) there) in
-        omega (arith, going.inside)
+        omega (arith, going.inside, takes)
 
-    pub goes_on : n < length filled → {a : Answer} {u heads' next' : List ℕ} → Meets v (judged v (drop at s)) a u → Tested u heads' next' b
-        → length u ≡ length v → Going w s slots u heads' next' (set filled n (answer_slot a)) b (n + 1) (at + taken (drop at s))
-    unfolding serve
-    goes_on h {a} {u} m t long =
+    pub goes_on : n < length filled → {index' : Index} → Tested u index' b → length u ≡ length v → {slot : ℕ} → slot ≡ answer_slot r.answer
+        → Going w s slots u index' (set filled n slot) b (n + 1) (at + r.taken)
+    goes_on h t long {slot} told =
         record {
           tested = t;
           words_long = long ∙ going.words_long;
-          slots_long = length-set filled n (answer_slot a) ∙ going.slots_long;
-          inside = next_inside;
+          slots_long = length-set filled n slot ∙ going.slots_long;
+          inside = next_within;
           same = sym step ∙ going.same;
         }
       where
@@ -140,38 +150,21 @@ module _ {w s slots v heads next filled : List ℕ} {b : Bool} {n at : ℕ} (goi
         front : List ℕ
         front = take (taken rest) rest
 
-        gives : serve v front ≡ record { answer = a; taken = taken rest; words = u }
-        gives =
-            sym (serve_front v rest there) ∙ served_is v (taken rest) (judged v rest)
-            ∙ λ i. record { answer = sym m.answer i; taken = taken rest; words = sym m.words i }
+        gives : serve v front ≡ record { answer = r.answer; taken = r.taken; words = u }
+        gives = sym (serve_front v rest there) ∙ λ i. record { answer = sym (answer_is serves) i; taken = sym (taken_is serves) i; words = sym serves.words i }
+
+        long_front : length front ≡ r.taken
+        long_front = length-take-le (taken rest) rest (taken_there (whole rest there)) ∙ sym takes
+
+        behind : drop (taken rest) rest ≡ drop (at + r.taken) s
+        behind = ap (λ (k : ℕ). drop k rest) (sym takes) ∙ drop-drop r.taken at s
 
         step : onward n at v (whole_records (length slots - n) rest) filled
-            ≡ onward (n + 1) (at + taken rest) u (whole_records (length slots - (n + 1)) (drop (at + taken rest) s)) (set filled n (answer_slot a))
+            ≡ onward (n + 1) (at + r.taken) u (whole_records (length slots - (n + 1)) (drop (at + r.taken) s)) (set filled n slot)
         step =
             let room : length slots - n ≡ suc (length slots - (n + 1)) = omega (arith, going.slots_long) in
-            let long_front : length front ≡ taken rest = length-take-le (taken rest) rest (taken_there (whole rest there)) in
             ap (λ (k : ℕ). onward n at v (whole_records k rest) filled) room
             ∙ ap (λ (l : List (List ℕ)). onward n at v l filled) (one_more (length slots - (n + 1)) rest there)
             ∙ onward_goes n at v front (whole_records (length slots - (n + 1)) (drop (taken rest) rest)) filled h
-            ∙ λ i. onward (n + 1) (at + long_front i) (gives i).words (whole_records (length slots - (n + 1)) (drop-drop (taken rest) at s i)) (set filled n (answer_slot (gives i).answer))
-
--- what was read is the part from here on
-module _ {w s slots v heads next filled : List ℕ} {b : Bool} {n at : ℕ} (going : Going w s slots v heads next filled b n at)
-    {found : Reading} (is : found ≡ reading (take (length s - at) (drop at s))) {cut : Bool} (asks : cut ≡ cut_short found) where
-  short_is : cut ≡ short (drop at s)
-  short_is = asks ∙ ap cut_short is ∙ short_found (take (length s - at) (drop at s)) ∙ ap short (rest_of s at)
-
-  pub stops_cut : cut ≡ true → told_run (record { served = n; taken = at }) v filled ≡ run w s slots
-  stops_cut e = stops_short going (sym short_is ∙ e)
-
-  module _ (there : cut ≡ false) {bytes : ℕ} (takes : bytes ≡ taken_of found) where
-    bytes_are : bytes ≡ taken (drop at s)
-    bytes_are = takes ∙ ap taken_of is ∙ reading_takes (take (length s - at) (drop at s)) ∙ ap taken (rest_of s at)
-
-    pub next_within : at + bytes ≤ length s
-    next_within = rw bytes_are (next_inside going (sym short_is ∙ there))
-
-    pub went_on : n < length filled → {a : Answer} {u heads' next' : List ℕ} → Meets v (judged v (take (length s - at) (drop at s))) a u
-        → Tested u heads' next' b → length u ≡ length v → {slot : ℕ} → slot ≡ answer_slot a
-        → Going w s slots u heads' next' (set filled n slot) b (n + 1) (at + bytes)
-    went_on h m t long e = rw (e, bytes_are) (goes_on going (sym short_is ∙ there) h (rw (rest_of s at) at m) t long)
+            ∙ (λ i. onward (n + 1) (at + long_front i) (gives i).words (whole_records (length slots - (n + 1)) (behind i)) (set filled n (answer_slot (gives i).answer)))
+            ∙ ap (λ (x : ℕ). onward (n + 1) (at + r.taken) u (whole_records (length slots - (n + 1)) (drop (at + r.taken) s)) (set filled n x)) (sym told)

@@ -12,14 +12,14 @@ ghost use Rattle.rows.specs.Meets.{Meets};
 ghost use Rattle.reaching.specs.Ready.{call_in, Ready};
 ghost use Rattle.service.specs.Serves.{Serves};
 ghost use Rattle.runs.specs.Runs.{told_run};
-ghost use Rattle.runs.specs.Tested.{Tested, leaves_entries};
+ghost use Rattle.runs.specs.Tested.{ServesWhole, Tested, leaves_entries};
 
 use dispatch::dispatch;
 use fields::table::keeps_entries;
-use index::{BUCKETS, index_entries};
+use index::{Index, index_entries};
 use model::{Answer, SHORT_RECORD, UNSOUND, Verdict};
-use records::{Fields, Reading, is_cut_short, read, taken_of};
-use rows::ENTRY_ROWS;
+use reaching::Record;
+use records::{Reading, is_cut_short, read, taken_of};
 use soundness::sound_and_index;
 
 // The words of an answer as numbers.
@@ -47,19 +47,16 @@ pub struct Run {
 pub fn serve_run(words: &mut [u32], records: &[u8], answers: &mut [u64]) -> Run
     ensures { told_run result words.new answers.new ≡ run words.old records.now answers.old }
 {
-    let mut heads = [0u16; BUCKETS];
-    let mut next = [0u16; ENTRY_ROWS];
-    let is_sound = sound_and_index(words, &mut heads, &mut next);
+    let mut index = Index::new();
+    let is_sound = sound_and_index(words, &mut index);
     let mut taken = 0;
     for (served, slot) in answers.iter_mut().enumerate() {
         let bytes = &records[taken..];
-        let found = read(bytes);
-        if is_cut_short(found) {
+        let Some(verdict) = serve_whole(words, &mut index, bytes, is_sound) else {
             return Run { served, taken };
-        }
-        let answer = serve_found(words, &mut heads, &mut next, bytes, found, is_sound);
-        *slot = told_answer(answer, 0);
-        taken += taken_of(found);
+        };
+        *slot = told_answer(verdict.answer, 0);
+        taken += verdict.taken;
     }
     let served = answers.len();
     Run { served, taken }
@@ -86,61 +83,69 @@ pub fn told_answer(answer: Answer, taken: u64) -> u64
 }
 
 // The record at the front of the bytes over tables that were tested before: what `service::serve` gives, and the test still holds.
-pub fn serve_tested(
+pub fn serve_tested(words: &mut [u32], index: &mut Index, bytes: &[u8], is_sound: bool) -> Verdict
+    requires { Tested words.old index.old is_sound }
+    ensures { (Serves words.old bytes.now result words.new) × (Tested words.new index.new is_sound) }
+{
+    match serve_whole(words, index, bytes, is_sound) {
+        Some(verdict) => verdict,
+        None => Verdict {
+            answer: Answer::Refused(SHORT_RECORD),
+            taken: 0,
+        },
+    }
+}
+
+// The same where the record is whole, and else nothing.
+fn serve_whole(
     words: &mut [u32],
-    heads: &mut [u16; BUCKETS],
-    next: &mut [u16; ENTRY_ROWS],
+    index: &mut Index,
     bytes: &[u8],
     is_sound: bool,
-) -> Verdict
-    requires { Tested words.old heads.old next.old is_sound }
-    ensures { (Serves words.old bytes.now result words.new) × (Tested words.new heads.new next.new is_sound) }
+) -> Option<Verdict>
+    requires { Tested words.old index.old is_sound }
+    ensures { (ServesWhole words.old bytes.now result words.new) × (Tested words.new index.new is_sound) }
 {
     let found = read(bytes);
-    let taken = taken_of(found);
     if is_cut_short(found) {
-        let answer = Answer::Refused(SHORT_RECORD);
-        return Verdict { answer, taken };
+        return None;
     }
-    let answer = serve_found(words, heads, next, bytes, found, is_sound);
-    Verdict { answer, taken }
+    let taken = taken_of(found);
+    let answer = serve_found(words, index, bytes, found, is_sound);
+    Some(Verdict { answer, taken })
 }
 
 // One whole record over tables that were tested before.
 fn serve_found(
     words: &mut [u32],
-    heads: &mut [u16; BUCKETS],
-    next: &mut [u16; ENTRY_ROWS],
+    index: &mut Index,
     bytes: &[u8],
     found: Reading,
     is_sound: bool,
 ) -> Answer
-    requires { (Tested words.old heads.old next.old is_sound) × ((found ≡ reading bytes.now) × (cut_short found ≡ false)) }
-    ensures { (Meets words.old (judged words.old bytes.now) result words.new) × (Tested words.new heads.new next.new is_sound) }
+    requires { (Tested words.old index.old is_sound) × ((found ≡ reading bytes.now) × (cut_short found ≡ false)) }
+    ensures { (Meets words.old (judged words.old bytes.now) result words.new) × (Tested words.new index.new is_sound) }
 {
     if !is_sound {
         return Answer::Refused(UNSOUND);
     }
     match found {
-        Reading::Refused { number, taken: _ } => Answer::Refused(number),
-        Reading::Accepted { fields, taken: _ } => serve_call(words, heads, next, bytes, fields),
+        Err(rejected) => Answer::Refused(rejected.number),
+        Ok(accepted) => {
+            let fields = accepted.fields;
+            serve_call(words, index, Record { bytes, fields })
+        }
     }
 }
 
 // An accepted record: its call, and then the index anew where entries were written.
-fn serve_call(
-    words: &mut [u32],
-    heads: &mut [u16; BUCKETS],
-    next: &mut [u16; ENTRY_ROWS],
-    bytes: &[u8],
-    fields: Fields,
-) -> Answer
-    requires { Ready words.old heads.old next.old bytes.now fields }
-    ensures { (Meets words.old (step (unpack words.old) (call_in bytes.now fields)) result words.new) × (Tested words.new heads.new next.new true) }
+fn serve_call(words: &mut [u32], index: &mut Index, call: Record) -> Answer
+    requires { Ready words.old index.old call.bytes.now call.fields }
+    ensures { (Meets words.old (step (unpack words.old) (call_in call.entry.bytes.now call.entry.fields)) result words.new) × (Tested words.new index.new true) }
 {
-    let answer = dispatch(words, heads, next, bytes, fields);
-    if !leaves_entries(fields.call, answer) {
-        index_anew(words, heads, next);
+    let answer = dispatch(words, index, call);
+    if !leaves_entries(call.fields.call, answer) {
+        index_anew(words, index);
     }
     answer
 }
@@ -151,11 +156,10 @@ fn leaves_entries(call: u32, answer: Answer) -> bool
     keeps_entries(call) || matches!(answer, Answer::Refused(_))
 }
 
-fn index_anew(words: &[u32], heads: &mut [u16; BUCKETS], next: &mut [u16; ENTRY_ROWS])
+fn index_anew(words: &[u32], index: &mut Index)
     requires { sound words.now ≡ true }
-    ensures { Indexed words.now heads.new next.new }
+    ensures { Indexed words.now index.new }
 {
-    *heads = [0; BUCKETS];
-    *next = [0; ENTRY_ROWS];
-    index_entries(words, heads, next);
+    *index = Index::new();
+    index_entries(words, index);
 }

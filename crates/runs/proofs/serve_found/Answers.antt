@@ -24,23 +24,23 @@ serve_call-requires c =
       indexed = tested.indexed c.if-not-is_sound.false;
       bytes = each_by_place c.args.bytes.now 0 (λ i h. omega (arith, c.type_inv.bytes i));
       taken = _;
-      read = sym c.requires.1.0 ∙ c.in-Accepted.is;
+      read = sym c.requires.1.0 ∙ c.in-Ok.is;
     }
 
-pub returns-in-Refused : goal.returns-in-Refused
-returns-in-Refused c =
+pub returns-in-Err : goal.returns-in-Err
+returns-in-Err c =
     let tested = c.requires.0 in
     let found = c.requires.1 in (
       judged_broken c.args.words.now c.args.bytes.now c.args.found found.0 refl found.1 tested.right
-          (ap not c.if-not-is_sound.false) c.in-Refused.is,
+          (ap not c.if-not-is_sound.false) c.in-Err.is,
       tested,
     )
 
-pub returns-in-Accepted : goal.returns-in-Accepted
-returns-in-Accepted c =
+pub returns-in-Ok : goal.returns-in-Ok
+returns-in-Ok c =
     let tested = c.requires.0 in
     let found = c.requires.1 in (
       judged_call c.args.words.now c.args.bytes.now c.args.found found.0 refl found.1 tested.right
-          (ap not c.if-not-is_sound.false) c.in-Accepted.is c.serve_call.ensures.0,
+          (ap not c.if-not-is_sound.false) c.in-Ok.is c.serve_call.ensures.0,
       tested_as c.if-not-is_sound.false c.serve_call.ensures.1,
     )
