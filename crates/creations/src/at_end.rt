@@ -20,6 +20,7 @@ use plans::{lacks_room, plan_holds};
 use rows::Kind;
 use search::{Caller, free_node_row};
 
+// stays: no plainer: link_at and make_at have tests in common, but each an order of refusals and edits of its own.
 pub fn link_at(words: &mut [u32], caller: Caller, new: Walk, old: Walk) -> Answer
     requires { (Behind words.old caller new) × (Countable (unpack words.old).nodes (goal_of old).node) }
     ensures { Meets words.old (link_at (unpack words.old) caller.process (goal_of new) (goal_of old)) result words.new }
@@ -71,6 +72,7 @@ pub fn make_at(words: &mut [u32], caller: Caller, walk: Walk, kind: Kind, target
     if lacks_room(words, &plan) {
         return Answer::Refused(NO_HOLD_ROW);
     }
+    // stays: no plainer: the row is below 65535 by what the search promises, and u16::try_from gives a Result whose Err never comes.
     let node = (row + 1) as u16;
     take_overruling(words, caller, walk, plan);
     add_entry(words, walk, node);

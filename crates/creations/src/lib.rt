@@ -38,6 +38,7 @@ fn make(words: &mut [u32], index: &Index, call: Record, kind: Kind) -> Answer
     }
 }
 
+// stays: what may not change: create, mkdir and symlink each have a clause of their own, and make is what they share.
 pub fn create(words: &mut [u32], index: &Index, call: Record) -> Answer
     requires { (Ready words.old index.now call.bytes.now call.fields) × ((Walks call.fields) × ((row_of call.fields.call).path2 ≡ blank)) }
     ensures { Meets words.old (create (unpack words.old) (call_in call.entry.bytes.now call.entry.fields)) result words.new }
