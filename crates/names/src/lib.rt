@@ -26,7 +26,7 @@ const SLASHES: u64 = 0x2f2f2f2f2f2f2f2f;
 pub fn is_good_name(name: Block) -> bool
     ensures { result ≡ good_name name }
 {
-    // stays: no plainer: usize::from takes no u32, and usize::try_from gives a Result whose Err never comes.
+    // stays: no plainer: Rust has no `From<u32>` for usize, and try_from's Err never comes.
     let length = (name.first / FIRST_BYTE_UNIT) as usize;
     if length == 0 || length > LONGEST_NAME || name.first == ONE_DOT || name.first == TWO_DOTS {
         return false;
