@@ -1,6 +1,6 @@
 #![tactic(auto)]
 // Calls 8 to 11: create, mkdir, symlink and link.
-ghost use Rattle.std.specs.Prelude.{◌≡◌, ◌≤◌, ◌<◌};
+ghost use Rattle.std.specs.Prelude.{◌≡◌, ◌≤◌};
 ghost use Rattle.model.specs.Calls.{make, create, mkdir, symlink, link};
 ghost use Rattle.model.specs.Words.{unpack};
 ghost use Rattle.records.specs.Reading.{part_of};
