@@ -67,6 +67,9 @@ pub fn link(words: &mut [u32], index: &Index, call: Record) -> Answer
 {
     match reach_both(words, index, call) {
         Err(number) => Answer::Refused(number),
-        Ok(reached) => link_at(words, reached.caller, reached.new, reached.old),
+        Ok(both) => match both.old {
+            Err(number) => Answer::Refused(number),
+            Ok(old) => link_at(words, both.caller, both.new, old),
+        },
     }
 }
