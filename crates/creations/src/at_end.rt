@@ -1,5 +1,5 @@
 // Call 11 behind both its walks: one more entry leads to the old path's node.
-ghost use Rattle.std.specs.Prelude.{◌≤◌, ◌<◌, length};
+ghost use Rattle.std.specs.Prelude.{◌≤◌, length};
 ghost use Rattle.goals.specs.Goals.{goal_of};
 ghost use Rattle.reaching.specs.Behind.{Behind};
 ghost use Rattle.model.specs.Paths.{longest_target};

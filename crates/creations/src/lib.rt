@@ -1,6 +1,6 @@
 #![tactic(auto)]
 // Calls 8 to 11: create, mkdir, symlink and link.
-ghost use Rattle.std.specs.Prelude.{◌≡◌, ◌≤◌, ◌<◌};
+ghost use Rattle.std.specs.Prelude.{◌≡◌, ◌≤◌};
 ghost use Rattle.model.specs.Calls.{make, create, mkdir, symlink, link};
 ghost use Rattle.model.specs.Words.{unpack};
 ghost use Rattle.records.specs.Reading.{part_of};
@@ -67,6 +67,9 @@ pub fn link(words: &mut [u32], index: &Index, call: Record) -> Answer
 {
     match reach_both(words, index, call) {
         Err(number) => Answer::Refused(number),
-        Ok(reached) => link_at(words, reached.caller, reached.new, reached.old),
+        Ok(both) => match both.old {
+            Err(number) => Answer::Refused(number),
+            Ok(old) => link_at(words, both.caller, both.new, old),
+        },
     }
 }

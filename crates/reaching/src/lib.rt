@@ -41,12 +41,12 @@ pub struct Reached {
     pub walk: Walk,
 }
 
-// Who calls, and where both paths lead, the new one and the old one.
+// Who calls, and where both paths lead, the new one and the old one, which may be refused.
 #[derive(Clone, Copy)]
 pub struct ReachedBoth {
     pub caller: Caller,
     pub new: Walk,
-    pub old: Walk,
+    pub old: Result<Walk, u8>,
 }
 
 // A walk that was refused ends the call.
@@ -79,10 +79,9 @@ pub fn reach_both(words: &[u32], index: &Index, call: Record) -> Result<ReachedB
     let first = reach(words, index, call, false)?;
     let old_path = call.fields.path2;
     let walk = walk_part(words, index, call.bytes, old_path, false);
-    let old = way_behind(walk)?;
     Ok(ReachedBoth {
         caller: first.caller,
         new: first.walk,
-        old,
+        old: way_behind(walk),
     })
 }
