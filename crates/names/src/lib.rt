@@ -28,11 +28,11 @@ pub fn is_good_name(name: Block) -> bool
 {
     // stays: no plainer: Rust has no `From<u32>` for usize, and try_from's Err never comes.
     let length = (name.first / FIRST_BYTE_UNIT) as usize;
-    if length == 0 || length > LONGEST_NAME || name.first == ONE_DOT || name.first == TWO_DOTS {
-        return false;
-    }
     // the length is not 0 and no slash, so that it passes as one byte more
-    words_fit(name, length + 1)
+    (1..=LONGEST_NAME).contains(&length)
+        && name.first != ONE_DOT
+        && name.first != TWO_DOTS
+        && words_fit(name, length + 1)
 }
 
 fn words_fit(name: Block, count: usize) -> bool
