@@ -4,7 +4,6 @@ ghost use Rattle.std.specs.Prelude.{◌≡◌, [], ◌∷◌, ◌<◌};
 ghost use Rattle.model.specs.Words.{bytes};
 ghost use Rattle.names.specs.Fits.{fits, good_name, number, tops, low_bits, top_bits, differing};
 
-use paths::LONGEST_NAME;
 use rows::{Block, FIRST_BYTE_UNIT};
 
 // A dot alone, and two, as the first word of a block.
@@ -29,7 +28,7 @@ pub fn is_good_name(name: Block) -> bool
     // stays: no plainer: Rust has no `From<u32>` for usize, and try_from's Err never comes.
     let length = (name.first / FIRST_BYTE_UNIT) as usize;
     // the length is not 0 and no slash, so that it passes as one byte more
-    (1..=LONGEST_NAME).contains(&length)
+    (1..=paths::LONGEST_NAME).contains(&length)
         && name.first != ONE_DOT
         && name.first != TWO_DOTS
         && words_fit(name, length + 1)
