@@ -156,6 +156,7 @@ fn follow_link(
     if trail.count >= LINKS {
         return Err(NINTH_LINK);
     }
+    // stays: no plainer: the node is a link's by contract, so that row_of_node would give a None that never comes.
     let target = target_in(words, usize::from(node) - 1);
     let names = &target.bytes[..target.length];
     let start = start_of(target.bytes[0], trail.node);
