@@ -13,6 +13,7 @@ ghost use Rattle.model.specs.Records.{blank, target, row_of};
 pub mod at_end;
 
 use at_end::{link_at, make_at};
+use goals::Reached;
 use index::Index;
 use model::Answer;
 use reaching::{Record, reach, reach_both};
@@ -28,13 +29,7 @@ fn make(words: &mut [u32], index: &Index, call: Record, kind: Kind) -> Answer
     let end = start + target.length;
     match reach(words, index, call, false) {
         Err(number) => Answer::Refused(number),
-        Ok(reached) => make_at(
-            words,
-            reached.caller,
-            reached.walk,
-            kind,
-            &call.bytes[start..end],
-        ),
+        Ok(reached) => make_at(words, reached, kind, &call.bytes[start..end]),
     }
 }
 
@@ -66,6 +61,12 @@ pub fn link(words: &mut [u32], index: &Index, call: Record) -> Answer
 {
     match reach_both(words, index, call) {
         Err(number) => Answer::Refused(number),
-        Ok(reached) => link_at(words, reached.caller, reached.new, reached.old),
+        Ok(both) => {
+            let new = Reached {
+                caller: both.caller,
+                walk: both.new,
+            };
+            link_at(words, new, both.old)
+        }
     }
 }

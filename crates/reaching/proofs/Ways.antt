@@ -25,7 +25,7 @@ use Rattle.plans.specs.Plans.{WalkUsed}
 use Rattle.goals.proofs.Back.{OutcomeFits, walked_named, goal_back}
 use Rattle.records.specs.declared.Fields.{Fields}
 use Rattle.records.specs.Reading.{part_of}
-use Rattle.reaching.specs.declared.Reached.{Reached}
+use Rattle.goals.specs.declared.Reached.{Reached}
 use Rattle.reaching.specs.declared.ReachedBoth.{ReachedBoth}
 use Rattle.reaching.specs.Behind.{Behind}
 use Rattle.index.specs.Indexed.{Index}
@@ -162,7 +162,7 @@ module _ (processes : List Process) (p : ℕ) where
 pub record Came (w : List ℕ) (p : ℕ) (o : Outcome Goal) (c : Caller) (walk : Walk) : Type 0 where
   pub goes : o ≡ granted (goal_of walk)
   pub is_caller : c ≡ caller (unpack w).processes p
-  pub behind : Behind w c walk
+  pub behind : Behind w (record { caller = c; walk = walk })
   pub countable : Countable (unpack w).nodes (goal_of walk).node
 
 -- the outcome's goal stands in the tables
@@ -180,8 +180,11 @@ came_by {w} {o = o} leading p ready {c} {x} told =
       behind =
           record {
             stands = stands_sound w ready.sound;
-            known = subst (Known (unpack w).processes) (sym told.is_caller) (record { user = refl });
-            named = subst WalkNamed (sym told.leads.is) (walked_named (granted g) fits);
+            named =
+                record {
+                  known = subst (Known (unpack w).processes) (sym told.is_caller) (record { user = refl });
+                  named = subst WalkNamed (sym told.leads.is) (walked_named (granted g) fits);
+                };
             used = subst WalkUsed (sym told.leads.is) (goal_used (unpack w) leading.order g arrived fits);
           };
       countable = subst (λ n. Countable (unpack w).nodes n) (ap (λ (x : Goal). x.node) (sym back)) (goal_countable (unpack w) leading.order g arrived);

@@ -8,7 +8,7 @@ use Rattle.goals.specs.declared.Stop.{Stop}
 use Rattle.goals.specs.declared.Stop.TheVariants as stops
 use Rattle.goals.specs.declared.Walk.{Walk}
 use Rattle.goals.specs.Goals.{walked}
-use Rattle.reaching.specs.declared.Reached.{Reached}
+use Rattle.goals.specs.declared.Reached.{Reached}
 use Rattle.reaching.specs.declared.ReachedBoth.{ReachedBoth}
 
 unfoldable pub way_by : Stop → Walk → Result Walk ℕ

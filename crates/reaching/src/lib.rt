@@ -11,7 +11,7 @@ ghost use Rattle.goals.specs.Goals.{walked};
 ghost use Rattle.reaching.specs.Ready.{PathIn, Ready, Walks, WalksTwice};
 ghost use Rattle.reaching.specs.Ways.{way_behind, reached, reached_both};
 
-use goals::{Stop, Walk};
+use goals::{Reached, Stop, Walk};
 use index::Index;
 use model::NOT_LISTED;
 use records::{Fields, Part};
@@ -32,13 +32,6 @@ pub fn walk_part(words: &[u32], index: &Index, bytes: &[u8], part: Part, follow_
 pub struct Record<'a> {
     pub bytes: &'a [u8],
     pub fields: Fields,
-}
-
-// Who calls, and where path 1 leads.
-#[derive(Clone, Copy)]
-pub struct Reached {
-    pub caller: Caller,
-    pub walk: Walk,
 }
 
 // Who calls, and where both paths lead, the new one and the old one.
