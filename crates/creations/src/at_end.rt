@@ -1,5 +1,5 @@
 // Call 11 behind both its walks: one more entry leads to the old path's node.
-ghost use Rattle.std.specs.Prelude.{◌≤◌, ◌<◌, length};
+ghost use Rattle.std.specs.Prelude.{◌≤◌, length};
 ghost use Rattle.goals.specs.Goals.{goal_of};
 ghost use Rattle.reaching.specs.Behind.{Behind};
 ghost use Rattle.model.specs.Paths.{longest_target};
@@ -20,6 +20,7 @@ use plans::{lacks_room, plan_holds};
 use rows::Kind;
 use search::free_node_row;
 
+// stays: no plainer: link_at and make_at have tests in common, but each an order of refusals and edits of its own.
 pub fn link_at(words: &mut [u32], new: Reached, old: Walk) -> Answer
     requires { (Behind words.old new) × (Countable (unpack words.old).nodes (goal_of old).node) }
     ensures { Meets words.old (link_at (unpack words.old) new.caller.process (goal_of new.walk) (goal_of old)) result words.new }
@@ -71,6 +72,7 @@ pub fn make_at(words: &mut [u32], reached: Reached, kind: Kind, target: &[u8]) -
     if lacks_room(words, &plan) {
         return Answer::Refused(NO_HOLD_ROW);
     }
+    // stays: no plainer: the row is below 65535 by what the search promises, and u16::try_from gives a Result whose Err never comes.
     let node = (row + 1) as u16;
     take_overruling(words, reached, plan);
     add_entry(words, reached.walk, node);

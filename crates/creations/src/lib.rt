@@ -1,6 +1,6 @@
 #![tactic(auto)]
 // Calls 8 to 11: create, mkdir, symlink and link.
-ghost use Rattle.std.specs.Prelude.{◌≡◌, ◌≤◌, ◌<◌};
+ghost use Rattle.std.specs.Prelude.{◌≡◌, ◌≤◌};
 ghost use Rattle.model.specs.Calls.{make, create, mkdir, symlink, link};
 ghost use Rattle.model.specs.Words.{unpack};
 ghost use Rattle.records.specs.Reading.{part_of};
@@ -13,7 +13,6 @@ ghost use Rattle.model.specs.Records.{blank, target, row_of};
 pub mod at_end;
 
 use at_end::{link_at, make_at};
-use goals::Reached;
 use index::Index;
 use model::Answer;
 use reaching::{Record, reach, reach_both};
@@ -33,6 +32,7 @@ fn make(words: &mut [u32], index: &Index, call: Record, kind: Kind) -> Answer
     }
 }
 
+// stays: what may not change: create, mkdir and symlink each have a clause of their own, and make is what they share.
 pub fn create(words: &mut [u32], index: &Index, call: Record) -> Answer
     requires { (Ready words.old index.now call.bytes.now call.fields) × ((Walks call.fields) × ((row_of call.fields.call).path2 ≡ blank)) }
     ensures { Meets words.old (create (unpack words.old) (call_in call.entry.bytes.now call.entry.fields)) result words.new }
@@ -61,12 +61,9 @@ pub fn link(words: &mut [u32], index: &Index, call: Record) -> Answer
 {
     match reach_both(words, index, call) {
         Err(number) => Answer::Refused(number),
-        Ok(both) => {
-            let new = Reached {
-                caller: both.caller,
-                walk: both.new,
-            };
-            link_at(words, new, both.old)
-        }
+        Ok(both) => match both.old {
+            Err(number) => Answer::Refused(number),
+            Ok(old) => link_at(words, both.new, old),
+        },
     }
 }

@@ -16,6 +16,7 @@ use processes::fork::fork;
 use reaching::Record;
 use removals::{rmdir, unlink};
 
+// stays: a rule of the project: document 01, 'Forms by place in the code', wants a match on the call number, with an arm for each call.
 pub fn dispatch(words: &mut [u32], index: &Index, call: Record) -> Answer
     requires { ReadyWhereKnown words.old index.now call.bytes.now call.fields }
     ensures { Meets words.old (step (unpack words.old) (call_in call.entry.bytes.now call.entry.fields)) result words.new }

@@ -13,9 +13,7 @@ ghost use Rattle.hold_rules.specs.Chains.{hold_buckets, hold_bucket, place_bucke
 
 use index::{Links, sum_of};
 use process_index::{ProcessIndex, is_in_index, user_in_index};
-use rows::{
-    END, HOLD_ROWS, Kind, hold_directory, hold_name, hold_process, hold_role, is_kind,
-};
+use rows::{END, HOLD_ROWS, Kind, hold_directory, hold_name, hold_process, hold_role, is_kind};
 use search::hold_is_on;
 
 // How many chains there are.

@@ -6,10 +6,9 @@ ghost use Rattle.listing.specs.Steps.{stepped, next_line};
 
 mod parts;
 
-use index::BUCKETS;
+use index::Index;
 use lines::put_line;
 pub use parts::list_part;
-use rows::ENTRY_ROWS;
 use runs::serve_tested;
 
 // What a step comes to.
@@ -61,14 +60,13 @@ struct Setting {
 // Serves the record at the front of the bytes and writes its line. The tables were tested and indexed before; the test still holds behind it.
 fn next_line(
     words: &mut [u32],
-    heads: &mut [u16; BUCKETS],
-    next: &mut [u16; ENTRY_ROWS],
+    index: &mut Index,
     bytes: &[u8],
     setting: Setting,
     out: &mut [u8],
 ) -> Step
-    requires { Tested words.old heads.old next.old setting.is_sound }
-    ensures { (stepped result words.new out.new ≡ next_line words.old bytes.now setting.last setting.place out.old) × (Tested words.new heads.new next.new setting.is_sound) }
+    requires { Tested words.old index.old setting.is_sound }
+    ensures { (stepped result words.new out.new ≡ next_line words.old bytes.now setting.last setting.place out.old) × (Tested words.new index.new setting.is_sound) }
 {
     if bytes.is_empty() {
         return if setting.last { Step::Over } else { Step::More };
@@ -76,7 +74,7 @@ fn next_line(
     if out.len() < LONGEST_LINE {
         return Step::Full;
     }
-    let verdict = serve_tested(words, heads, next, bytes, setting.is_sound);
+    let verdict = serve_tested(words, index, bytes, setting.is_sound);
     let taken = verdict.taken;
     if taken == 0 && !setting.last {
         return Step::More;

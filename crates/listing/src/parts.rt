@@ -3,17 +3,15 @@ ghost use Rattle.std.specs.Prelude.{◌≡◌};
 ghost use Rattle.listing.specs.Parts.{filled, list_part};
 
 use super::{Part, Setting, Step, Stop, next_line};
-use index::BUCKETS;
-use rows::ENTRY_ROWS;
+use index::Index;
 use soundness::sound_and_index;
 
 // Serves record after record of the bytes and writes their lines. `last` says that no bytes will come behind these.
 pub fn list_part(words: &mut [u32], bytes: &[u8], last: bool, place: u64, out: &mut [u8]) -> Part
     ensures { filled result words.new out.new ≡ list_part last words.old bytes.now place out.old }
 {
-    let mut heads = [0u16; BUCKETS];
-    let mut next = [0u16; ENTRY_ROWS];
-    let is_sound = sound_and_index(words, &mut heads, &mut next);
+    let mut index = Index::new();
+    let is_sound = sound_and_index(words, &mut index);
     let mut from = 0;
     let mut at = 0;
     let mut place = place;
@@ -25,7 +23,7 @@ pub fn list_part(words: &mut [u32], bytes: &[u8], last: bool, place: u64, out: &
             last,
             place,
         };
-        match next_line(words, &mut heads, &mut next, rest, setting, &mut out[at..]) {
+        match next_line(words, &mut index, rest, setting, &mut out[at..]) {
             Step::Line { taken, length } => {
                 from += taken;
                 at += length;

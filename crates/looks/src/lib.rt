@@ -12,6 +12,7 @@ use index::Index;
 use model::Answer;
 use reaching::{Record, reach};
 
+// stays: no plainer: two facts that a call sets, and no step to run: a closure in their place would hide which tests a call makes.
 // Whether a link at the last name is followed, and whether an absence is refused.
 #[derive(Clone, Copy)]
 struct Manner {
@@ -19,6 +20,7 @@ struct Manner {
     must_exist: bool,
 }
 
+// stays: no plainer: look_along, make, link, unlink and rmdir begin alike, by a match of two arms; ? is none of theirs, since an Answer is no Result.
 fn look_along(words: &mut [u32], index: &Index, call: Record, manner: Manner) -> Answer
     requires { (Ready words.old index.now call.bytes.now call.fields) × (Walks call.fields) }
     ensures { Meets words.old (looking manner.follow_last manner.must_exist (unpack words.old) (call_in call.entry.bytes.now call.entry.fields)) result words.new }
@@ -29,6 +31,7 @@ fn look_along(words: &mut [u32], index: &Index, call: Record, manner: Manner) ->
     }
 }
 
+// stays: what may not change: check, look and use_of each have a clause of their own, and look_along is what they share.
 pub fn check(words: &mut [u32], index: &Index, call: Record) -> Answer
     requires { (Ready words.old index.now call.bytes.now call.fields) × (Walks call.fields) }
     ensures { Meets words.old (check (unpack words.old) (call_in call.entry.bytes.now call.entry.fields)) result words.new }

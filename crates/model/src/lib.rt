@@ -16,6 +16,7 @@ pub struct Verdict {
 }
 
 // The numbers that refusals give: document 01, 'Numbers given back'.
+// stays: a rule of the project: document 01's form is Refused(number), and public functions (holds::end_held, say) take a `goals::Stop` refused with any number.
 pub const UNSOUND: u8 = 1;
 
 pub const BAD_FIELD: u8 = 2;

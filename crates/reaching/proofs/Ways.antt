@@ -102,18 +102,13 @@ module _ (processes : List Process) (p : ℕ) where
         let is = on.is in
         (λ i. Ok (record { caller = same i; walk = is i })) ∙ sym (ap (reached processes p) on.goes)
 
-    pub both_shut : {first second : Outcome Goal} {x : Walk} {n : ℕ} → Open first x → second ≡ refused n → Err n ≡ reached_both processes p first second
+    pub both_walked : (second : Outcome Goal) {first : Outcome Goal} {x z : Walk} {y : Result Walk ℕ} → Open first x → z ≡ walked second → y ≡ way_behind z
+        → Ok (record { new = record { caller = c; walk = x }; old = y }) ≡ reached_both processes p first second
     unfolding reached_both
-    both_shut {second = second} new is = sym (ap (λ q. reached_both processes p q second) new.goes ∙ ap (reached_both processes p (granted new.goal)) is)
-
-    pub both_walked : {first second : Outcome Goal} {x y : Walk} → Open first x → Open second y
-        → Ok (record { caller = c; new = x; old = y }) ≡ reached_both processes p first second
-    unfolding reached_both
-    both_walked {second = second} new old =
+    both_walked second new is tells =
         let x = new.is in
-        let y = old.is in
-        (λ i. Ok (record { caller = same i; new = x i; old = y i }))
-        ∙ sym (ap (λ q. reached_both processes p q second) new.goes ∙ ap (reached_both processes p (granted new.goal)) old.goes)
+        let y = tells ∙ ap way_behind is in
+        (λ i. Ok (record { new = record { caller = same i; walk = x i }; old = y i })) ∙ sym (ap (λ q. reached_both processes p q second) new.goes)
 
 -- WHAT IT TELLS
 
@@ -141,20 +136,33 @@ module _ (processes : List Process) (p : ℕ) where
   both_told_refused : (first second : Outcome Goal) {n : ℕ} → Err n ≡ reached_both processes p first second → ends_of first second ≡ refused n
   unfolding reached_both ◌>>=◌
   both_told_refused (refused m) second e = cc
-  both_told_refused (granted g) (refused m) e = cc
-  both_told_refused (granted g) (granted h) e = cc
+  both_told_refused (granted g) second e = cc
 
-  both_told : (first second : Outcome Goal) {a : ReachedBoth} → Ok a ≡ reached_both processes p first second
-      → Told processes p first a.caller a.new × Told processes p second a.caller a.old
+  -- what is told where path 1 leads somewhere
+  record BothTold (first second : Outcome Goal) (a : ReachedBoth) : Type 0 where
+    pub new : Told processes p first a.new.caller a.new.walk
+    pub old : a.old ≡ told second
+
+  both_told : (first second : Outcome Goal) {a : ReachedBoth} → Ok a ≡ reached_both processes p first second → BothTold first second a
   unfolding reached_both
   both_told (refused m) second e = cc
-  both_told (granted g) (refused m) e = cc
-  both_told (granted g) (granted h) {a} e =
-      let same : a ≡ record { caller = caller processes p; new = walked (granted g); old = walked (granted h) } = cc in
-      let who = ap (λ (x : ReachedBoth). x.caller) same in (
-        record { is_caller = who; leads = record { goal = g; goes = refl; is = ap (λ (x : ReachedBoth). x.new) same } },
-        record { is_caller = who; leads = record { goal = h; goes = refl; is = ap (λ (x : ReachedBoth). x.old) same } },
-      )
+  both_told (granted g) second {a} e =
+      let same : a ≡ record { new = record { caller = caller processes p; walk = walked (granted g) }; old = way_behind (walked second) } = cc in
+      let who = ap (λ (x : ReachedBoth). x.new.caller) same in
+      record {
+        new = record { is_caller = who; leads = record { goal = g; goes = refl; is = ap (λ (x : ReachedBoth). x.new.walk) same } };
+        old = ap (λ (x : ReachedBoth). x.old) same ∙ way_told second;
+      }
+
+  -- and path 2 does not
+  old_refused : (first second : Outcome Goal) {a : ReachedBoth} {n : ℕ} → BothTold first second a → Err n ≡ a.old → ends_of first second ≡ refused n
+  unfolding ◌>>=◌
+  old_refused first second {n = n} both e =
+      ap (λ q. ends_of q second) both.new.leads.goes ∙ ap (ends_of (granted both.new.leads.goal)) (shut_told second n (e ∙ both.old))
+
+  -- or does
+  old_open : (first second : Outcome Goal) {a : ReachedBoth} {x : Walk} → BothTold first second a → Ok x ≡ a.old → Told processes p second a.new.caller x
+  old_open first second {x = x} both e = record { is_caller = both.new.is_caller; leads = open_told second x (e ∙ both.old) }
 
 -- ONE WAY
 
@@ -222,13 +230,21 @@ module _ {w s : List ℕ} {x : Index} {f : Fields} (ready : Ready w x s f) (walk
     unfolding reaching_both ◌>>=◌ answer_of words_of
     both_refused e rest = rw (both_told_refused (unpack w).processes f.process New Old e) (record { answer = refl; words = refl })
 
-    pub both_came : {a : ReachedBoth} → Ok a ≡ reached_both (unpack w).processes f.process New Old
-        → Came w f.process New a.caller a.new × Came w f.process Old a.caller a.old
+    pub old_is_refused : {a : ReachedBoth} {n : ℕ} → Ok a ≡ reached_both (unpack w).processes f.process New Old → Err n ≡ a.old
+        → (rest : Ends → Outcome Change) → Meets w (Both >>= rest) (answers.Refused n) w
+    unfolding reaching_both ◌>>=◌ answer_of words_of
+    old_is_refused e shut rest =
+        let both = both_told (unpack w).processes f.process New Old e in
+        rw (old_refused (unpack w).processes f.process New Old both shut) (record { answer = refl; words = refl })
+
+    pub both_came : {a : ReachedBoth} {x : Walk} → Ok a ≡ reached_both (unpack w).processes f.process New Old → Ok x ≡ a.old
+        → Came w f.process New a.new.caller a.new.walk × Came w f.process Old a.new.caller x
     unfolding WalksTwice
-    both_came e =
+    both_came e on =
         let both = both_told (unpack w).processes f.process New Old e in (
-          came_by (reach_leads ready false walks) f.process ready both.0,
-          came_by (path_leads ready false f.path2 (path2_in ready.bytes ready.read twice)) f.process ready both.1,
+          came_by (reach_leads ready false walks) f.process ready both.new,
+          came_by (path_leads ready false f.path2 (path2_in ready.bytes ready.read twice)) f.process ready
+              (old_open (unpack w).processes f.process New Old both on),
         )
 
 -- THE CALL GOES ON

@@ -25,9 +25,8 @@ unfoldable pub reached : List Process → ℕ → Outcome Goal → Result Reache
 reached processes p (refused n) = Err n
 reached processes p (granted g) = Ok (record { caller = caller processes p; walk = walked (granted g) })
 
--- the same of two paths; the second is walked where the first leads somewhere
+-- the same of two paths; the second is walked where the first leads somewhere, and its refusal is told beside the first walk
 unfoldable pub reached_both : List Process → ℕ → Outcome Goal → Outcome Goal → Result ReachedBoth ℕ
 reached_both processes p (refused n) second = Err n
-reached_both processes p (granted g) (refused n) = Err n
-reached_both processes p (granted g) (granted h) =
-    Ok (record { caller = caller processes p; new = walked (granted g); old = walked (granted h) })
+reached_both processes p (granted g) second =
+    Ok (record { new = record { caller = caller processes p; walk = walked (granted g) }; old = way_behind (walked second) })

@@ -12,6 +12,7 @@ use index::Index;
 use model::Answer;
 use reaching::{Record, reach};
 
+// stays: no plainer: unlink and rmdir differ in the call behind the walk; one function for both would take that call as a closure.
 pub fn unlink(words: &mut [u32], index: &Index, call: Record) -> Answer
     requires { (Ready words.old index.now call.bytes.now call.fields) × (Walks call.fields) }
     ensures { Meets words.old (unlink (unpack words.old) (call_in call.entry.bytes.now call.entry.fields)) result words.new }

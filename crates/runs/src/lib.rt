@@ -23,6 +23,7 @@ use records::{Reading, is_cut_short, read, taken_of};
 use soundness::sound_and_index;
 
 // The words of an answer as numbers.
+// stays: the C interface: include/tickbutton.h gives these four numbers to C, which reads one out of what told gives.
 const HELD: u64 = 0;
 
 const SEEN: u64 = 1;
@@ -62,6 +63,7 @@ pub fn serve_run(words: &mut [u32], records: &[u8], answers: &mut [u64]) -> Run
     Run { served, taken }
 }
 
+// stays: the C interface: exports tell by this also what is no Answer, as the length of a packed record or the bytes that reading took.
 // An answer as one number: the answer's number in the lower 32 bits, its word in the two above, and the bytes taken above those.
 pub fn told(word: u64, number: u64, taken: u64) -> u64
     requires { (word < 4) × (number < 4294967296) × (taken < 65536) }
@@ -82,6 +84,7 @@ pub fn told_answer(answer: Answer, taken: u64) -> u64
     }
 }
 
+// stays: no plainer: an Option<&mut Index> in the place of index and is_sound would be reborrowed for each record, and its None says no more than false.
 // The record at the front of the bytes over tables that were tested before: what `service::serve` gives, and the test still holds.
 pub fn serve_tested(words: &mut [u32], index: &mut Index, bytes: &[u8], is_sound: bool) -> Verdict
     requires { Tested words.old index.old is_sound }

@@ -49,7 +49,8 @@ unfolding same
 same_turned [] [] = refl
 same_turned [] (y ∷ t) = refl
 same_turned (x ∷ s) [] = refl
-same_turned (x ∷ s) (y ∷ t) = ap (λ b. elim b as (λ _. Bool) [ true ↦ same s t | false ↦ false ]) (eqb_turned x y) ∙ ap (λ r. elim (eqb y x) as (λ _. Bool) [ true ↦ r | false ↦ false ]) (same_turned s t)
+same_turned (x ∷ s) (y ∷ t) = ap (λ b. elim b as (λ _. Bool) [ true ↦ same s t | false ↦ false ]) (eqb_turned x y)
+    ∙ ap (λ r. elim (eqb y x) as (λ _. Bool) [ true ↦ r | false ↦ false ]) (same_turned s t)
 
 place_turned : (p q : Place) → same_place p q ≡ same_place q p
 unfolding same_place

@@ -1,6 +1,6 @@
 #![tactic(auto)]
 // What each row of the lent words has to meet by itself, row after row.
-ghost use Rattle.std.specs.Prelude.{[], ◌∷◌, ◌≡◌, ◌+◌, ◌*◌, ◌≤◌, ◌<◌, eqb, length, take, drop};
+ghost use Rattle.std.specs.Prelude.{[], ◌∷◌, ◌≡◌, ◌+◌, ◌*◌, ◌≤◌, ◌<◌, length, take, drop};
 ghost use Rattle.model.specs.Lists.{all};
 ghost use Rattle.model.specs.Paths.{longest_target};
 ghost use Rattle.model.specs.Tables.{entry_rows, node_rows, hold_rows};

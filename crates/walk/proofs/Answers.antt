@@ -10,7 +10,7 @@ use Rattle.std.specs.Prelude.{Option, Some, None, Ok}
 use Rattle.model.specs.Refusals.{Outcome, refused}
 use Rattle.model.specs.Paths.{Name, names}
 use Rattle.model.specs.Tables as model_tables
-use Rattle.model.specs.Tables.{Node, a_directory, a_link, node_at, lookup}
+use Rattle.model.specs.Tables.{Node, a_link, node_at, lookup}
 use Rattle.model.specs.Walk.{Goal, Found, link, found, Trip, here, astray, past, after_link, start, follow, turn, trip_names}
 use Rattle.goals.specs.Goals.{place_row}
 use Rattle.walk.specs.declared.Trail.{Trail}

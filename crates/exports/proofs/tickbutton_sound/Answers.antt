@@ -9,4 +9,4 @@ returns-then-sound c = c.told.ensures ∙ ap soundness_number (sym c.if-sound.tr
 
 pub returns : goal.returns
 unfolding soundness_number
-returns c = c.told-2.ensures ∙ ap soundness_number (sym c.if-sound.false ∙ c.sound.ensures)
+returns c = c.told-2.ensures ∙ rw c.from.ensures (ap soundness_number (sym c.if-sound.false ∙ c.sound.ensures))
