@@ -79,7 +79,7 @@ fn node_head(kind: Kind, length: usize, count: u16) -> u32
     requires { (length < 128) × (count < 1024) }
     ensures { result ≡ number_of kind * 1073741824 + length * 8388608 + count * 8192 }
 {
-    u32::from(kind.number()) * TOP_UNIT
+    u32::from(u8::from(kind)) * TOP_UNIT
         + length as u32 * LENGTH_UNIT
         + u32::from(count) * COUNT_UNIT
 }

@@ -18,7 +18,7 @@ fn put_fields(numbers: &mut [u32; 6], fields: Fields)
 {
     let path1 = fields.path1;
     let path2 = fields.path2;
-    // stays: no plainer, Rust has no `From<usize>` for u32, and the clause says that these fit.
+    // stays: no plainer: Rust has no `From<usize>` for u32, and by the clause that these fit try_from's Err never comes.
     *numbers = [
         u32::from(fields.process),
         u32::from(fields.argument),
@@ -34,7 +34,7 @@ fn put_fields(numbers: &mut [u32; 6], fields: Fields)
 pub fn tickbutton_read(bytes: &[u8], fields: &mut [u32; 6]) -> u64
     ensures { ReadsAs bytes.now result fields.new }
 {
-    // stays: no plainer, Rust has no `From<usize>` for u64, here and below.
+    // stays: no plainer: Rust has no `From<usize>` for u64, and try_from's Err never comes.
     match records::read(bytes) {
         Ok(found) => {
             put_fields(fields, found.fields);
@@ -59,6 +59,7 @@ pub fn tickbutton_pack(
     ensures { PacksAs (called call process argument path1.now path2.now) destination.old result destination.new }
 {
     match records::pack(call, process, argument, path1, path2, destination) {
+        // stays: no plainer: Rust has no `From<usize>` for u64, and try_from's Err never comes.
         Ok(length) => told(DONE, length as u64, 0),
         Err(number) => told(REFUSED, u64::from(number), 0),
     }
@@ -79,6 +80,7 @@ pub fn tickbutton_serve(words: &mut [u32], record: &[u8]) -> u64
     ensures { ServesAs words.old «record».now result words.new }
 {
     let verdict = service::serve(words, record);
+    // stays: no plainer: Rust has no `From<usize>` for u64, and try_from's Err never comes.
     told_answer(verdict.answer, verdict.taken as u64)
 }
 
@@ -120,6 +122,7 @@ pub fn tickbutton_serve_run(
     ensures { RunsAs words.old bytes.now answers.old result words.new answers.new taken.new }
 {
     let run = runs::serve_run(words, bytes, answers);
+    // stays: no plainer: Rust has no `From<usize>` for u64, and try_from's Err never comes.
     *taken = [run.taken as u64];
     run.served as u64
 }

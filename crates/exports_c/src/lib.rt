@@ -8,6 +8,8 @@ ghost use Rattle.exports.specs.Runs.{RunsAs};
 
 use walk_told::GOAL_WORDS;
 
+// stays: the C interface: each function gives the one of exports its name in C.
+
 // Reads the record at the front of the bytes: done with the call's number, or refused; the six fields are the process, the argument, and the
 // start and length of path 1 and path 2, all 0 where it is refused.
 #[unsafe(no_mangle)]

@@ -4,7 +4,7 @@ ghost use Rattle.model.specs.Records.{keeps_entries, row_of};
 ghost use Rattle.fields.specs.Rows.{coded_row, is_call};
 
 // The class of a call; `Unknown` is for a number that is no call's.
-// stays: no Option, since the clause of `row_of` gives every number a row, as the model's table does.
+// stays: what may not change: row_of can't fail, and its clause gives every number a row, as the model's table does.
 #[derive(Clone, Copy)]
 pub enum Class {
     Unknown,
@@ -29,6 +29,7 @@ pub struct Row(pub Class, pub bool, pub Wanted, pub Wanted);
 
 const CALLS: usize = 13;
 
+// stays: what may not change: `fault` and `pack` take any u32 as a call, so that a call is a number and this one's has a name.
 pub(crate) const FORK: u32 = 2;
 
 const ROWS: [Row; CALLS] = [

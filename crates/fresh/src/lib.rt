@@ -8,7 +8,7 @@ use model::UNSOUND;
 use rows::{Kind, NODES_START, TOP_UNIT, WORD_COUNT};
 
 // The first word of a directory to which no entry leads.
-// stays: no plainer, a constant's value can't call `u32::from`.
+// stays: no plainer: a constant can't call `u32::from`, and written in `fresh` it would lose its name.
 const EMPTY_DIRECTORY: u32 = Kind::Directory as u32 * TOP_UNIT;
 
 fn clear_all(words: &mut [u32])

@@ -32,7 +32,7 @@ pub fn head_of(bytes: &[u8]) -> u64
 pub fn numbers_of(head: u64) -> Numbers
     ensures { result ≡ numbers_in head }
 {
-    // stays: a field cut out of the head fits by its remainder; `try_from` would ask for a refusal that can't come, so the cast is no less plain.
+    // stays: no plainer: each field fits by its remainder, and try_from's Err never comes.
     Numbers {
         call: (head / CALL_UNIT % 32) as u32,
         process: (head / PROCESS_UNIT % 65536) as u16,
@@ -44,14 +44,14 @@ pub fn numbers_of(head: u64) -> Numbers
 pub fn path1_length(head: u64) -> usize
     ensures { result ≡ bits 11 8 head }
 {
-    // stays: no plainer, the remainder fits a byte, and Rust has no `From` between u64 and usize.
+    // stays: no plainer: the remainder fits a byte, Rust has no `From` between u64 and usize, and try_from's Err never comes.
     (head / LENGTH1_UNIT % 256) as usize
 }
 
 pub fn path2_length(head: u64) -> usize
     ensures { result ≡ bits 3 8 head }
 {
-    // stays: no plainer, the remainder fits a byte, and Rust has no `From` between u64 and usize.
+    // stays: no plainer: the remainder fits a byte, Rust has no `From` between u64 and usize, and try_from's Err never comes.
     (head / LENGTH2_UNIT % 256) as usize
 }
 
@@ -61,7 +61,7 @@ pub fn joined_head(numbers: Numbers, length1: usize, length2: usize) -> u64
     ensures { result ≡ joined_head numbers length1 length2 }
 {
     let high = u64::from(numbers.call) * 65536 + u64::from(numbers.process);
-    // stays: no plainer, Rust has no `From<usize>` for u64.
+    // stays: no plainer: Rust has no `From<usize>` for u64, and try_from's Err never comes.
     let lengths = (length1 as u64) * 256 + (length2 as u64);
     ((high * 65536 + u64::from(numbers.argument)) * 65536 + lengths) * LENGTH2_UNIT
         + u64::from(numbers.zeros)

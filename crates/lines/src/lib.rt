@@ -35,6 +35,7 @@ fn put_digits(out: &mut [u8], at: usize, number: u64) -> usize
 }
 
 // Writes a line at the front: the place, the word with a space on either side, and the number.
+// stays: a rule of the project (no heap): put_line's clause gives the bytes in a lent slice; a Display would need a writer over it to say them.
 fn put_line_around(out: &mut [u8], place: u64, word: &[u8], number: u64) -> usize
     requires { length (line_around place word.now number) ≤ length out.old }
     ensures { Puts out.old 0 (line_around place word.now number) result out.new }

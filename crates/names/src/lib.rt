@@ -4,7 +4,6 @@ ghost use Rattle.std.specs.Prelude.{◌≡◌, [], ◌∷◌, ◌<◌};
 ghost use Rattle.model.specs.Words.{bytes};
 ghost use Rattle.names.specs.Fits.{fits, good_name, number, tops, low_bits, top_bits, differing};
 
-use paths::LONGEST_NAME;
 use rows::{Block, FIRST_BYTE_UNIT};
 
 // A dot alone, and two, as the first word of a block.
@@ -26,13 +25,13 @@ const SLASHES: u64 = 0x2f2f2f2f2f2f2f2f;
 pub fn is_good_name(name: Block) -> bool
     ensures { result ≡ good_name name }
 {
-    // stays: no plainer: usize::from takes no u32, and usize::try_from gives a Result whose Err never comes.
+    // stays: no plainer: Rust has no `From<u32>` for usize, and try_from's Err never comes.
     let length = (name.first / FIRST_BYTE_UNIT) as usize;
-    if length == 0 || length > LONGEST_NAME || name.first == ONE_DOT || name.first == TWO_DOTS {
-        return false;
-    }
     // the length is not 0 and no slash, so that it passes as one byte more
-    words_fit(name, length + 1)
+    (1..=paths::LONGEST_NAME).contains(&length)
+        && name.first != ONE_DOT
+        && name.first != TWO_DOTS
+        && words_fit(name, length + 1)
 }
 
 fn words_fit(name: Block, count: usize) -> bool

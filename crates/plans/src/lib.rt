@@ -23,6 +23,7 @@ use search::{free_hold_row, free_hold_rows, has_hold};
 pub const PLAN_ROOM: usize = 9;
 
 // Holds to be taken, in their order.
+// stays: no plainer: Planned says that each is a hold, which no ArrayVec does; a struct around one would have to pass on each of its methods.
 pub type Plan = ArrayVec<HoldRow, PLAN_ROOM>;
 
 // Every row of a hold is built here.
@@ -37,7 +38,7 @@ fn hold_row(place: Place, process: u16, role: u8) -> HoldRow
     }
 }
 
-// stays: compared by field, not by a derived `==`: sameness is by process, role and place alone, so that a hold may get a further field (docs/DECISIONS.md).
+// stays: a rule of the project (docs/DECISIONS.md): sameness is by process, role and place alone, so that a hold may get a further field.
 fn same_holds(a: HoldRow, b: HoldRow) -> bool
     ensures { result ≡ same_rows a b }
 {

@@ -37,8 +37,8 @@ use Rattle.rows.proofs.target_in.Reads as target_in_reads
 use Rattle.rows.proofs.KindNumbers.{same_kind}
 use Rattle.rows.proofs.kind_of.Kinds as kind_of_kinds
 use Rattle.rows.proofs.kind_of.Reads as kind_of_reads
-use Rattle.rows.proofs.Kind.number.Kinds as number_kinds
-use Rattle.rows.proofs.Kind.number.Reads as number_reads
+use Rattle.rows.proofs.U8FromKind.from.Kinds as number_kinds
+use Rattle.rows.proofs.U8FromKind.from.Reads as number_reads
 use Rattle.rows.proofs.is_kind.Kinds as is_kind_kinds
 use Rattle.rows.proofs.is_kind.Reads as is_kind_reads
 use Rattle.rows.proofs.row_of_node.Kinds as row_of_node_kinds

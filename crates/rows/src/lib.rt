@@ -30,6 +30,7 @@ pub const TARGET_WORDS: usize = 16;
 pub const TARGET_BYTES: usize = 64;
 
 // How many rows each table has.
+// stays: no plainer: a row is the usize of a range over its table; a type for one below these numbers would be built and taken apart at every step.
 pub const ENTRY_ROWS: usize = 512;
 
 pub const NODE_ROWS: usize = 256;
@@ -54,6 +55,7 @@ pub const LENGTH_UNIT: u32 = 8388608;
 pub const COUNT_UNIT: u32 = 8192;
 
 // How many values a target's length and a count can have.
+// stays: no plainer: a count is the u16 that stands in the words, and a length that of a slice; a type for less would be built and taken apart.
 pub const LENGTH_VALUES: u32 = 128;
 
 pub const COUNT_VALUES: u32 = 1024;
@@ -66,11 +68,11 @@ pub enum Kind {
     Link = 3,
 }
 
-impl Kind {
-    pub fn number(self) -> u8
-        ensures { result ≡ number_of self }
-    {
-        self as u8
+impl From<Kind> for u8 {
+    ghost from_gives = { λ kind number. number ≡ number_of kind };
+
+    fn from(kind: Kind) -> u8 {
+        kind as u8
     }
 }
 
@@ -84,6 +86,7 @@ pub const END: u8 = 1;
 pub const ELEMENT: u8 = 2;
 
 // A name block: its four words.
+// stays: what may not change: block_at gives the block of any four words and is_good_name asks of any; Named is asked where one is taken for a name.
 #[derive(Clone, Copy, PartialEq, Eq, Default)]
 pub struct Block {
     pub first: u32,
@@ -191,7 +194,7 @@ pub fn four_bytes(path: &[u8], from: usize, count: usize, k: usize) -> u32
 }
 
 // The block of the name that stands in the path: `count` bytes from `from` on.
-// stays: no plainer: `count as u8` is shown exact by the proof, as above.
+// stays: no plainer: `count as u8` is shown exact by the proof, and `try_from` would bring an Err that nothing can reach.
 pub fn block_from(path: &[u8], from: usize, count: usize) -> Block
     requires { (from + count ≤ length path.now) × (count ≤ longest_name) }
     ensures { result ≡ block_of (take count (drop from path.now)) }
@@ -220,7 +223,7 @@ pub fn same_blocks(a: Block, b: Block) -> bool
 // ENTRIES
 
 // stays: a rule of the project: document 01 wants the tables as one lent slice of words read by row and field, so that Stands is asked of the slice.
-// stays: no plainer: each field of each table has one line and a clause on its own table; one generic would take both as ghosts.
+// stays: no plainer: each is one line; one generic function would take the field's place and, as a ghost, what it reads, and each caller would give both.
 pub fn entry_directory(words: &[u32], row: usize) -> u16
     requires { (Stands words.now) × (row < entry_rows) }
     ensures { result ≡ (entry_row words.now row).place.directory }

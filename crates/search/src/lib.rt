@@ -95,6 +95,7 @@ pub fn hold_is_on(words: &[u32], row: usize, directory: u16, name: Block) -> boo
 }
 
 // Whether the hold of a row is this one.
+// stays: a rule of the project (docs/DECISIONS.md): sameness is by process, role and place alone, so that a hold may get a further field.
 fn hold_is(words: &[u32], row: usize, hold: HoldRow) -> bool
     requires { (Stands words.now) × ((row < hold_rows) × (Named hold.name)) }
     ensures { result ≡ same_hold (hold_of hold) (hold_row words.now row) }
@@ -121,7 +122,7 @@ pub fn free_hold_rows(words: &[u32]) -> usize
 }
 
 // THE LOWEST FREE ROW of each table, if one is free
-// stays: four searches of one line each, over their own field and their own table's clause; one generic would take both as ghosts, which is no plainer.
+// stays: no plainer: each is one line over its own field; one generic function would take the field's test and, as a ghost, the table it reads.
 
 pub fn free_entry_row(words: &[u32]) -> Option<usize>
     requires { Stands words.now }

@@ -37,6 +37,7 @@ pub fn is_shaped(words: &[u32]) -> bool
 }
 
 // stays: no plainer: one function for this and the next two would take the number of rows and the test as a closure, all that each of them says.
+// stays: what may not change: a `&[u32; WORD_COUNT]` would have the length by its type, but leave nothing of is_shaped's test, of which an edit speaks.
 fn entries_shaped(words: &[u32]) -> bool
     requires { length words.now ≡ word_count }
     ensures { result ≡ all entry_shaped (entry_pieces words.now) }

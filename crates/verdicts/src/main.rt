@@ -21,6 +21,7 @@ struct Standing {
 }
 
 // Moves the bytes from `from` up to `held` to the front, and answers how many they are.
+// stays: a rule of the project (no heap): one buffer of fixed size is read into behind what is unread, so that its length goes beside it.
 fn keep_unread(bytes: &mut [u8], from: usize, held: usize) -> usize
     requires { (from ≤ held) × (held ≤ length bytes.old) }
     ensures puts { Puts bytes.old 0 (take (held - from) (drop from bytes.old)) result bytes.new }
@@ -83,6 +84,7 @@ fn turn(
 }
 
 // Nothing says that the input ends, so the turns are counted, up to a number that no run reaches.
+// stays: no plainer: a `while let` would need a number that falls with each turn, and a count up to a bound is one.
 fn list_all(rt: &HostRuntime, words: &mut [u32], bytes: &mut [u8], out: &mut [u8]) {
     let mut standing = Standing {
         unread: 0,

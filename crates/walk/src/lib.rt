@@ -27,7 +27,7 @@ use rows::{
 const LINKS: usize = 8;
 
 // How far a walk has come: the node that it stands at, and the links followed so far, in the order met, each by the row of its entry.
-// stays: no plainer: an ArrayVec for `count` and `rows` is not Copy, and a trail is kept where a name is resolved from it.
+// stays: no plainer: a trail is a Copy value that each name starts from (`..trail`); an ArrayVec for `count` and `rows` would have to be cloned there.
 #[derive(Clone, Copy)]
 struct Trail {
     node: u16,
@@ -86,7 +86,7 @@ fn walk_names(
     requires valid { valid_names path.now ≡ true }
     ensures { result ≡ walked_from words.now follow_last from (names path.now) }
 {
-    // stays: no plainer: whether a name is the last is asked of where it ends, so an iterator of names would be told its position all the same.
+    // stays: no plainer: block_from and the contract go by where a name stands in the path; split(..).peekable() gives the names alone.
     let mut at = 0;
     let mut trail = from;
     while let Some(Part { start, length }) = next_name(path, at) {
@@ -159,7 +159,7 @@ fn follow_link(
     let target = target_in(words, usize::from(node) - 1);
     let names = &target.bytes[..target.length];
     let start = start_of(target.bytes[0], trail.node);
-    // stays: no plainer: the row is below 512 by contract, and u16::try_from gives a Result whose Err never comes.
+    // stays: no plainer: the row is below 512 by contract, and try_from's Err never comes.
     let onward = through_link(trail, row as u16, start);
     walk_names(words, index, names, true, onward)
 }
