@@ -24,6 +24,7 @@ pub enum Wanted {
 }
 
 // A row: the class, whether the argument is wanted, what path 1 and path 2 are to be.
+// stays: no plainer: with named fields each of the thirteen rows below, which stand as document 01 has them, would take six lines.
 #[derive(Clone, Copy)]
 pub struct Row(pub Class, pub bool, pub Wanted, pub Wanted);
 
@@ -55,8 +56,9 @@ const NO_ROW: Row = Row(Class::Unknown, false, Wanted::Blank, Wanted::Blank);
 pub fn row_of(call: u32) -> Row
     ensures { result ≡ coded_row (row_of call) }
 {
-    // stays: no plainer, Rust has no `From<u32>` for usize.
+    // stays: no plainer: Rust has no `From<u32>` for usize, and try_from's Err never comes.
     let place = call as usize;
+    // stays: tried as `ROWS.get(place).copied().unwrap_or(NO_ROW)`: that what `get` looks up is the row of the table stayed open.
     if place < 1 || CALLS < place {
         return NO_ROW;
     }

@@ -1,7 +1,14 @@
 -- Each public function's contract leaves one result. Assumes nothing.
-use mathlib.Core.Path.{sym, ◌∙◌}
-use Rattle.laws.proofs.Results.{OneResult}
+use mathlib.Core.Path.{sym, ap, ◌∙◌}
+use Prim.Native.Nat.{ℕ}
+use mir.Syntax.{w64}
+use mir.Val.{Fits}
+use Rattle.laws.proofs.Results.{OneResult, OneExit}
 use Rattle.index.proofs.Descents.{counted_one}
+use Rattle.index.proofs.Links.new.Kinds as new_kinds
+use Rattle.index.proofs.Links.new.Reads as new_reads
+use Rattle.index.proofs.Links.link_row.Kinds as link_row_kinds
+use Rattle.index.proofs.Links.link_row.Reads as link_row_reads
 use Rattle.index.proofs.index_entries.Kinds as index_entries_kinds
 use Rattle.index.proofs.index_entries.Reads as index_entries_reads
 use Rattle.index.proofs.find_entry.Kinds as find_entry_kinds
@@ -23,3 +30,16 @@ node_found_determined κs a x y s t p q = p ∙ sym q
 
 pub sum_of_determined : OneResult 0 sum_of_kinds.ps sum_of_kinds.r sum_of_reads.Post
 sum_of_determined κs a x y s t p q = p.0 ∙ sym q.0
+
+-- of chains of any size; the row found by a test is one only as far as the test itself answers alike, so that last_in_chain has no such theorem
+module _ (SIZE ROWS : ℕ) (buckets : Fits w64 SIZE) (rows : Fits w64 ROWS) where
+  pub new_determined : OneResult 2 (new_kinds.ps SIZE ROWS buckets rows) (new_kinds.r SIZE ROWS buckets rows) (new_reads.Post SIZE ROWS buckets rows)
+  new_determined κs a x y s t p q = p ∙ sym q
+
+  pub link_row_heads_determined : OneExit 3 (link_row_kinds.ps SIZE ROWS buckets rows) (link_row_kinds.r SIZE ROWS buckets rows)
+      (link_row_reads.Post SIZE ROWS buckets rows) (λ κs s. s.0.now.heads)
+  link_row_heads_determined κs a x y s t p q = ap (λ l. l.heads) (p ∙ sym q)
+
+  pub link_row_next_determined : OneExit 3 (link_row_kinds.ps SIZE ROWS buckets rows) (link_row_kinds.r SIZE ROWS buckets rows)
+      (link_row_reads.Post SIZE ROWS buckets rows) (λ κs s. s.0.now.next)
+  link_row_next_determined κs a x y s t p q = ap (λ l. l.next) (p ∙ sym q)

@@ -13,11 +13,9 @@ use paths::valid_target;
 use rows::{
     Block, COUNT_UNIT, ELEMENT, END, ENTRY_ROWS, ENTRY_WIDTH, HOLD_ROWS, HOLD_WIDTH, HOLDS_START,
     Kind, NODE_ROWS, NODE_WIDTH, NODES_START, PROCESSES_START, ROLE_PLACE, TARGET_BYTES,
-    TARGET_WORDS, TOP_UNIT, UPPER_UNIT, WORD_COUNT, block_at, bytes_at, length_bits, top_bits,
+    TARGET_WORDS, TOP_UNIT, UPPER_UNIT, WORD_COUNT, block_at, bytes_at, kind_of, length_bits,
+    top_bits,
 };
-
-// A link's kind, in the top bits of a word that may say anything.
-const LINK: u8 = Kind::Link as u8;
 
 // The words of the two roles, in the top bits.
 // stays: no plainer: a constant can't call u32::from.
@@ -125,10 +123,10 @@ fn node_shaped(words: &[u32], row: usize) -> bool
     if head % COUNT_UNIT != 0 {
         return false;
     }
-    match top_bits(head) {
-        0 => head == 0 && all_zeros(words, at + 1),
-        LINK => link_shaped(words, at + 1, length_bits(head)),
-        _ => length_bits(head) == 0 && all_zeros(words, at + 1),
+    match kind_of(top_bits(head)) {
+        None => head == 0 && all_zeros(words, at + 1),
+        Some(Kind::Link) => link_shaped(words, at + 1, length_bits(head)),
+        Some(_) => length_bits(head) == 0 && all_zeros(words, at + 1),
     }
 }
 
