@@ -7,10 +7,10 @@ ghost use Rattle.rows.specs.Stands.{Stands};
 ghost use Rattle.goals.specs.Goals.{goal_of};
 ghost use Rattle.reaching.specs.Behind.{Behind};
 
-use goals::{Stop, Walk, is_absent, node_of};
+use goals::{Reached, Stop, Walk, is_absent, node_of};
 use holds::{entry_held, inside_held, is_root};
 use rows::{Kind, is_kind};
-use search::{Caller, free_entry_row, free_node_row};
+use search::{free_entry_row, free_node_row};
 
 pub fn is_present(walk: Walk) -> bool
     ensures { result ≡ not (absent (goal_of walk)) }
@@ -38,19 +38,19 @@ pub fn is_no_directory(words: &[u32], walk: Walk) -> bool
     stops_at_root(walk) || !leads_to_directory(words, walk)
 }
 
-pub fn is_blocked(words: &[u32], caller: Caller, walk: Walk) -> bool
-    requires { Behind words.now caller walk }
-    ensures { result ≡ blocked (unpack words.now) caller.process (goal_of walk) }
+pub fn is_blocked(words: &[u32], reached: Reached) -> bool
+    requires { Behind words.now reached }
+    ensures { result ≡ blocked (unpack words.now) reached.caller.process (goal_of reached.walk) }
 {
-    !is_root(caller) && entry_held(words, caller, walk)
+    !is_root(reached.caller) && entry_held(words, reached)
 }
 
-pub fn is_directory_blocked(words: &[u32], caller: Caller, walk: Walk) -> bool
-    requires { Behind words.now caller walk }
-    ensures { result ≡ directory_blocked (unpack words.now) caller.process (goal_of walk) }
+pub fn is_directory_blocked(words: &[u32], reached: Reached) -> bool
+    requires { Behind words.now reached }
+    ensures { result ≡ directory_blocked (unpack words.now) reached.caller.process (goal_of reached.walk) }
 {
-    !is_root(caller)
-        && (entry_held(words, caller, walk) || inside_held(words, caller, node_of(walk)))
+    !is_root(reached.caller)
+        && (entry_held(words, reached) || inside_held(words, reached.caller, node_of(reached.walk)))
 }
 
 pub fn lacks_entry_row(words: &[u32]) -> bool

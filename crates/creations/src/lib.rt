@@ -28,13 +28,7 @@ fn make(words: &mut [u32], index: &Index, call: Record, kind: Kind) -> Answer
     let end = start + target.length;
     match reach(words, index, call, false) {
         Err(number) => Answer::Refused(number),
-        Ok(reached) => make_at(
-            words,
-            reached.caller,
-            reached.walk,
-            kind,
-            &call.bytes[start..end],
-        ),
+        Ok(reached) => make_at(words, reached, kind, &call.bytes[start..end]),
     }
 }
 
@@ -69,7 +63,7 @@ pub fn link(words: &mut [u32], index: &Index, call: Record) -> Answer
         Err(number) => Answer::Refused(number),
         Ok(both) => match both.old {
             Err(number) => Answer::Refused(number),
-            Ok(old) => link_at(words, both.caller, both.new, old),
+            Ok(old) => link_at(words, both.new, old),
         },
     }
 }

@@ -3,13 +3,16 @@ use Rattle.std.specs.Prelude.{List, ◌++◌, map, ℕ, ◌-◌, ◌≤◌, leng
 use Rattle.std.proofs.Math.Option.{Option, none, some}
 use Rattle.model.specs.Refusals.{Outcome, refused, granted}
 use Rattle.model.specs.Tables as model_tables
+use Rattle.model.specs.Tables.{Process}
 use Rattle.model.specs.Walk.{Goal}
 use Rattle.laws.specs.Each.{Each}
 use Rattle.rows.specs.Blocks.{Named, block_of, place_of}
+use Rattle.search.specs.Callers.{Known}
 use Rattle.goals.specs.declared.Place.{Place}
 use Rattle.goals.specs.declared.Stop.{Stop}
 use Rattle.goals.specs.declared.Stop.TheVariants.{Refused, Root, Entry}
 use Rattle.goals.specs.declared.Walk.{Walk}
+use Rattle.goals.specs.declared.Reached.{Reached}
 
 -- FROM THE MODEL TO THE CODE: what a walk answers
 
@@ -64,3 +67,8 @@ pub record WalkNamed (w : Walk) : Type 0 where
   pub stop : StopNamed w.stop
   pub few : w.count ≤ 8
   pub elements : Each PlaceNamed w.elements
+
+-- who calls is known among these processes, and the walk's blocks are those of their names
+pub record ReachedNamed (processes : List Process) (r : Reached) : Type 0 where
+  pub known : Known processes r.caller
+  pub named : WalkNamed r.walk

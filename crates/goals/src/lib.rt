@@ -5,6 +5,7 @@ ghost use Rattle.model.specs.Calls.{absent};
 ghost use Rattle.goals.specs.Goals.{node_at_end, goal_of};
 
 use rows::{Block, ROOT};
+use search::Caller;
 
 // A directory's node and a name in it; blank by default, where no place is.
 #[derive(Clone, Copy, Default)]
@@ -29,6 +30,13 @@ pub struct Walk {
     pub stop: Stop,
     pub count: usize,
     pub elements: [Place; 8],
+}
+
+// Who calls, and where its path leads.
+#[derive(Clone, Copy)]
+pub struct Reached {
+    pub caller: Caller,
+    pub walk: Walk,
 }
 
 // The node where a walk stopped, 0 for a refusal.

@@ -9,11 +9,11 @@ ghost use Rattle.model.specs.Holds.{inside, of_process, end_held, entry_held, in
 ghost use Rattle.model.specs.Words.{unpack};
 ghost use Rattle.rows.specs.Stands.{Stands, Becomes, hold_row};
 ghost use Rattle.search.specs.Callers.{Known};
-ghost use Rattle.goals.specs.Goals.{PlaceNamed, WalkNamed, goal_of, place_at};
+ghost use Rattle.goals.specs.Goals.{PlaceNamed, ReachedNamed, WalkNamed, goal_of, place_at};
 ghost use Rattle.holds.specs.Asks.{Tells, of_another, holds_on, ends_on};
 
 use edits::clear_hold;
-use goals::{Place, Stop, Walk};
+use goals::{Place, Reached, Stop, Walk};
 use rows::{END, HOLD_ROWS, hold_directory, hold_process, hold_role};
 use search::{Caller, ROOT_USER, hold_is_on, user_of_process};
 
@@ -85,29 +85,29 @@ fn others_hold<F: Fn(&[u32], usize) -> bool>(words: &[u32], directory: u16, test
 }
 
 // stays: end_held and entry_held, and drop_preempted and drop_overruled, differ in the test that they pass alone: each is a public function with a clause of its own.
-pub fn end_held(words: &[u32], caller: Caller, walk: Walk) -> bool
-    requires { (Stands words.now) × ((Known (unpack words.now).processes caller) × (WalkNamed walk)) }
-    ensures { result ≡ end_held (unpack words.now) caller.process (goal_of walk) }
+pub fn end_held(words: &[u32], reached: Reached) -> bool
+    requires { (Stands words.now) × (ReachedNamed (unpack words.now).processes reached) }
+    ensures { result ≡ end_held (unpack words.now) reached.caller.process (goal_of reached.walk) }
 {
-    match end_of(walk) {
+    match end_of(reached.walk) {
         Some(place) => others_hold(
             words,
             place.directory,
-            |words, row| ends_at(words, row, place, caller.user),
+            |words, row| ends_at(words, row, place, reached.caller.user),
         ),
         None => false,
     }
 }
 
-pub fn entry_held(words: &[u32], caller: Caller, walk: Walk) -> bool
-    requires { (Stands words.now) × ((Known (unpack words.now).processes caller) × (WalkNamed walk)) }
-    ensures { result ≡ entry_held (unpack words.now) caller.process (goal_of walk) }
+pub fn entry_held(words: &[u32], reached: Reached) -> bool
+    requires { (Stands words.now) × (ReachedNamed (unpack words.now).processes reached) }
+    ensures { result ≡ entry_held (unpack words.now) reached.caller.process (goal_of reached.walk) }
 {
-    match end_of(walk) {
+    match end_of(reached.walk) {
         Some(place) => others_hold(
             words,
             place.directory,
-            |words, row| is_held(words, row, place, caller.user),
+            |words, row| is_held(words, row, place, reached.caller.user),
         ),
         None => false,
     }
@@ -157,25 +157,31 @@ pub fn drop_inside(words: &mut [u32], directory: u16)
 }
 
 // Root at calls 5 to 7: other users lose their end holds at the end of the walk.
-pub fn drop_preempted(words: &mut [u32], caller: Caller, walk: Walk)
-    requires { (Stands words.old) × ((Known (unpack words.old).processes caller) × (WalkNamed walk)) }
-    ensures { Becomes words.new (with_holds (unpack words.old) (drop_holds (preempted (unpack words.old) caller.process (goal_of walk)) (unpack words.old).holds)) }
+pub fn drop_preempted(words: &mut [u32], reached: Reached)
+    requires { (Stands words.old) × (ReachedNamed (unpack words.old).processes reached) }
+    ensures { Becomes words.new (with_holds (unpack words.old) (drop_holds (preempted (unpack words.old) reached.caller.process (goal_of reached.walk)) (unpack words.old).holds)) }
 {
-    if is_root(caller) {
-        if let Some(place) = end_of(walk) {
-            drop_where(words, |words, row| ends_at(words, row, place, caller.user));
+    if is_root(reached.caller) {
+        if let Some(place) = end_of(reached.walk) {
+            drop_where(
+                words,
+                |words, row| ends_at(words, row, place, reached.caller.user),
+            );
         }
     }
 }
 
 // Root at calls 8 to 13: they lose their holds there in either role.
-pub fn drop_overruled(words: &mut [u32], caller: Caller, walk: Walk)
-    requires { (Stands words.old) × ((Known (unpack words.old).processes caller) × (WalkNamed walk)) }
-    ensures { Becomes words.new (with_holds (unpack words.old) (drop_holds (overruled (unpack words.old) caller.process (goal_of walk)) (unpack words.old).holds)) }
+pub fn drop_overruled(words: &mut [u32], reached: Reached)
+    requires { (Stands words.old) × (ReachedNamed (unpack words.old).processes reached) }
+    ensures { Becomes words.new (with_holds (unpack words.old) (drop_holds (overruled (unpack words.old) reached.caller.process (goal_of reached.walk)) (unpack words.old).holds)) }
 {
-    if is_root(caller) {
-        if let Some(place) = end_of(walk) {
-            drop_where(words, |words, row| is_held(words, row, place, caller.user));
+    if is_root(reached.caller) {
+        if let Some(place) = end_of(reached.walk) {
+            drop_where(
+                words,
+                |words, row| is_held(words, row, place, reached.caller.user),
+            );
         }
     }
 }

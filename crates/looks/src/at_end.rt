@@ -8,11 +8,10 @@ ghost use Rattle.reaching.specs.Behind.{Behind};
 ghost use Rattle.rows.specs.Meets.{Meets};
 
 use changes::takes::take_preempting;
-use goals::{Walk, is_absent, node_of};
+use goals::{Reached, Walk, is_absent, node_of};
 use holds::{end_held, is_root};
 use model::{ABSENT, Answer, NO_HOLD_ROW};
 use plans::{lacks_room, plan_holds};
-use search::Caller;
 
 fn is_missing(must_exist: bool, walk: Walk) -> bool
     ensures { result ≡ must_exist && absent (goal_of walk) }
@@ -21,28 +20,28 @@ fn is_missing(must_exist: bool, walk: Walk) -> bool
 }
 
 // Another user has the end hold, and the caller is not root.
-fn is_seen(words: &[u32], caller: Caller, walk: Walk) -> bool
-    requires { Behind words.now caller walk }
-    ensures { result ≡ end_held (unpack words.now) caller.process (goal_of walk) && not (root (unpack words.now) caller.process) }
+fn is_seen(words: &[u32], reached: Reached) -> bool
+    requires { Behind words.now reached }
+    ensures { result ≡ end_held (unpack words.now) reached.caller.process (goal_of reached.walk) && not (root (unpack words.now) reached.caller.process) }
 {
-    !is_root(caller) && end_held(words, caller, walk)
+    !is_root(reached.caller) && end_held(words, reached)
 }
 
-pub fn look_at(words: &mut [u32], caller: Caller, walk: Walk, must_exist: bool) -> Answer
-    requires { Behind words.old caller walk }
-    ensures { Meets words.old (look_at must_exist (unpack words.old) caller.process (goal_of walk)) result words.new }
+pub fn look_at(words: &mut [u32], reached: Reached, must_exist: bool) -> Answer
+    requires { Behind words.old reached }
+    ensures { Meets words.old (look_at must_exist (unpack words.old) reached.caller.process (goal_of reached.walk)) result words.new }
 {
-    if is_missing(must_exist, walk) {
+    if is_missing(must_exist, reached.walk) {
         return Answer::Refused(ABSENT);
     }
-    let node = node_of(walk);
-    if is_seen(words, caller, walk) {
+    let node = node_of(reached.walk);
+    if is_seen(words, reached) {
         return Answer::Seen(node);
     }
-    let plan = plan_holds(words, caller.process, walk);
+    let plan = plan_holds(words, reached.caller.process, reached.walk);
     if lacks_room(words, &plan) {
         return Answer::Refused(NO_HOLD_ROW);
     }
-    take_preempting(words, caller, walk, plan);
+    take_preempting(words, reached, plan);
     Answer::Held(node)
 }

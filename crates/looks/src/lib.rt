@@ -27,7 +27,7 @@ fn look_along(words: &mut [u32], index: &Index, call: Record, manner: Manner) ->
 {
     match reach(words, index, call, manner.follow_last) {
         Err(number) => Answer::Refused(number),
-        Ok(reached) => look_at(words, reached.caller, reached.walk, manner.must_exist),
+        Ok(reached) => look_at(words, reached, manner.must_exist),
     }
 }
 

@@ -25,7 +25,7 @@ use Rattle.plans.specs.Plans.{WalkUsed}
 use Rattle.goals.proofs.Back.{OutcomeFits, walked_named, goal_back}
 use Rattle.records.specs.declared.Fields.{Fields}
 use Rattle.records.specs.Reading.{part_of}
-use Rattle.reaching.specs.declared.Reached.{Reached}
+use Rattle.goals.specs.declared.Reached.{Reached}
 use Rattle.reaching.specs.declared.ReachedBoth.{ReachedBoth}
 use Rattle.reaching.specs.Behind.{Behind}
 use Rattle.index.specs.Indexed.{Index}
@@ -103,12 +103,12 @@ module _ (processes : List Process) (p : ℕ) where
         (λ i. Ok (record { caller = same i; walk = is i })) ∙ sym (ap (reached processes p) on.goes)
 
     pub both_walked : (second : Outcome Goal) {first : Outcome Goal} {x z : Walk} {y : Result Walk ℕ} → Open first x → z ≡ walked second → y ≡ way_behind z
-        → Ok (record { caller = c; new = x; old = y }) ≡ reached_both processes p first second
+        → Ok (record { new = record { caller = c; walk = x }; old = y }) ≡ reached_both processes p first second
     unfolding reached_both
     both_walked second new is tells =
         let x = new.is in
         let y = tells ∙ ap way_behind is in
-        (λ i. Ok (record { caller = same i; new = x i; old = y i })) ∙ sym (ap (λ q. reached_both processes p q second) new.goes)
+        (λ i. Ok (record { new = record { caller = same i; walk = x i }; old = y i })) ∙ sym (ap (λ q. reached_both processes p q second) new.goes)
 
 -- WHAT IT TELLS
 
@@ -140,17 +140,17 @@ module _ (processes : List Process) (p : ℕ) where
 
   -- what is told where path 1 leads somewhere
   record BothTold (first second : Outcome Goal) (a : ReachedBoth) : Type 0 where
-    pub new : Told processes p first a.caller a.new
+    pub new : Told processes p first a.new.caller a.new.walk
     pub old : a.old ≡ told second
 
   both_told : (first second : Outcome Goal) {a : ReachedBoth} → Ok a ≡ reached_both processes p first second → BothTold first second a
   unfolding reached_both
   both_told (refused m) second e = cc
   both_told (granted g) second {a} e =
-      let same : a ≡ record { caller = caller processes p; new = walked (granted g); old = way_behind (walked second) } = cc in
-      let who = ap (λ (x : ReachedBoth). x.caller) same in
+      let same : a ≡ record { new = record { caller = caller processes p; walk = walked (granted g) }; old = way_behind (walked second) } = cc in
+      let who = ap (λ (x : ReachedBoth). x.new.caller) same in
       record {
-        new = record { is_caller = who; leads = record { goal = g; goes = refl; is = ap (λ (x : ReachedBoth). x.new) same } };
+        new = record { is_caller = who; leads = record { goal = g; goes = refl; is = ap (λ (x : ReachedBoth). x.new.walk) same } };
         old = ap (λ (x : ReachedBoth). x.old) same ∙ way_told second;
       }
 
@@ -161,7 +161,7 @@ module _ (processes : List Process) (p : ℕ) where
       ap (λ q. ends_of q second) both.new.leads.goes ∙ ap (ends_of (granted both.new.leads.goal)) (shut_told second n (e ∙ both.old))
 
   -- or does
-  old_open : (first second : Outcome Goal) {a : ReachedBoth} {x : Walk} → BothTold first second a → Ok x ≡ a.old → Told processes p second a.caller x
+  old_open : (first second : Outcome Goal) {a : ReachedBoth} {x : Walk} → BothTold first second a → Ok x ≡ a.old → Told processes p second a.new.caller x
   old_open first second {x = x} both e = record { is_caller = both.new.is_caller; leads = open_told second x (e ∙ both.old) }
 
 -- ONE WAY
@@ -170,7 +170,7 @@ module _ (processes : List Process) (p : ℕ) where
 pub record Came (w : List ℕ) (p : ℕ) (o : Outcome Goal) (c : Caller) (walk : Walk) : Type 0 where
   pub goes : o ≡ granted (goal_of walk)
   pub is_caller : c ≡ caller (unpack w).processes p
-  pub behind : Behind w c walk
+  pub behind : Behind w (record { caller = c; walk = walk })
   pub countable : Countable (unpack w).nodes (goal_of walk).node
 
 -- the outcome's goal stands in the tables
@@ -188,8 +188,11 @@ came_by {w} {o = o} leading p ready {c} {x} told =
       behind =
           record {
             stands = stands_sound w ready.sound;
-            known = subst (Known (unpack w).processes) (sym told.is_caller) (record { user = refl });
-            named = subst WalkNamed (sym told.leads.is) (walked_named (granted g) fits);
+            named =
+                record {
+                  known = subst (Known (unpack w).processes) (sym told.is_caller) (record { user = refl });
+                  named = subst WalkNamed (sym told.leads.is) (walked_named (granted g) fits);
+                };
             used = subst WalkUsed (sym told.leads.is) (goal_used (unpack w) leading.order g arrived fits);
           };
       countable = subst (λ n. Countable (unpack w).nodes n) (ap (λ (x : Goal). x.node) (sym back)) (goal_countable (unpack w) leading.order g arrived);
@@ -235,7 +238,7 @@ module _ {w s : List ℕ} {x : Index} {f : Fields} (ready : Ready w x s f) (walk
         rw (old_refused (unpack w).processes f.process New Old both shut) (record { answer = refl; words = refl })
 
     pub both_came : {a : ReachedBoth} {x : Walk} → Ok a ≡ reached_both (unpack w).processes f.process New Old → Ok x ≡ a.old
-        → Came w f.process New a.caller a.new × Came w f.process Old a.caller x
+        → Came w f.process New a.new.caller a.new.walk × Came w f.process Old a.new.caller x
     unfolding WalksTwice
     both_came e on =
         let both = both_told (unpack w).processes f.process New Old e in (

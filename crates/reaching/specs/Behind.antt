@@ -2,15 +2,12 @@
 use Rattle.std.specs.Prelude.{List, ℕ}
 use Rattle.model.specs.Words.{unpack}
 use Rattle.rows.specs.Stands.{Stands}
-use Rattle.search.specs.declared.Caller.{Caller}
-use Rattle.search.specs.Callers.{Known}
-use Rattle.goals.specs.declared.Walk.{Walk}
-use Rattle.goals.specs.Goals.{WalkNamed}
+use Rattle.goals.specs.declared.Reached.{Reached}
+use Rattle.goals.specs.Goals.{ReachedNamed}
 use Rattle.plans.specs.Plans.{WalkUsed}
 
 -- the words stand for tables, the caller is known in them, and the walk's places may be compared and written
-pub record Behind (w : List ℕ) (c : Caller) (walk : Walk) : Type 0 where
+pub record Behind (w : List ℕ) (r : Reached) : Type 0 where
   pub stands : Stands w
-  pub known : Known (unpack w).processes c
-  pub named : WalkNamed walk
-  pub used : WalkUsed walk
+  pub named : ReachedNamed (unpack w).processes r
+  pub used : WalkUsed r.walk

@@ -8,7 +8,7 @@ use Rattle.goals.specs.declared.Stop.{Stop}
 use Rattle.goals.specs.declared.Stop.TheVariants as stops
 use Rattle.goals.specs.declared.Walk.{Walk}
 use Rattle.goals.specs.Goals.{walked}
-use Rattle.reaching.specs.declared.Reached.{Reached}
+use Rattle.goals.specs.declared.Reached.{Reached}
 use Rattle.reaching.specs.declared.ReachedBoth.{ReachedBoth}
 
 unfoldable pub way_by : Stop → Walk → Result Walk ℕ
@@ -29,4 +29,4 @@ reached processes p (granted g) = Ok (record { caller = caller processes p; walk
 unfoldable pub reached_both : List Process → ℕ → Outcome Goal → Outcome Goal → Result ReachedBoth ℕ
 reached_both processes p (refused n) second = Err n
 reached_both processes p (granted g) second =
-    Ok (record { caller = caller processes p; new = walked (granted g); old = way_behind (walked second) })
+    Ok (record { new = record { caller = caller processes p; walk = walked (granted g) }; old = way_behind (walked second) })

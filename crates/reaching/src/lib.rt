@@ -11,11 +11,11 @@ ghost use Rattle.goals.specs.Goals.{walked};
 ghost use Rattle.reaching.specs.Ready.{PathIn, Ready, Walks, WalksTwice};
 ghost use Rattle.reaching.specs.Ways.{way_behind, reached, reached_both};
 
-use goals::{Stop, Walk};
+use goals::{Reached, Stop, Walk};
 use index::Index;
 use model::NOT_LISTED;
 use records::{Fields, Part};
-use search::{Caller, find_caller};
+use search::find_caller;
 use walk::walk;
 
 pub fn walk_part(words: &[u32], index: &Index, bytes: &[u8], part: Part, follow_last: bool) -> Walk
@@ -34,18 +34,10 @@ pub struct Record<'a> {
     pub fields: Fields,
 }
 
-// Who calls, and where path 1 leads.
-#[derive(Clone, Copy)]
-pub struct Reached {
-    pub caller: Caller,
-    pub walk: Walk,
-}
-
 // Who calls, and where both paths lead, the new one and the old one, which may be refused.
 #[derive(Clone, Copy)]
 pub struct ReachedBoth {
-    pub caller: Caller,
-    pub new: Walk,
+    pub new: Reached,
     pub old: Result<Walk, u8>,
 }
 
@@ -76,12 +68,11 @@ pub fn reach_both(words: &[u32], index: &Index, call: Record) -> Result<ReachedB
     requires { (Ready words.now index.now call.bytes.now call.fields) × ((Walks call.fields) × (WalksTwice call.fields)) }
     ensures { result ≡ reached_both (unpack words.now).processes call.entry.fields.process (reaching (unpack words.now) call.entry.fields.process false (part_of call.entry.bytes.now call.entry.fields.path1)) (walk (unpack words.now).entries (unpack words.now).nodes false (part_of call.entry.bytes.now call.entry.fields.path2)) }
 {
-    let first = reach(words, index, call, false)?;
+    let new = reach(words, index, call, false)?;
     let old_path = call.fields.path2;
     let walk = walk_part(words, index, call.bytes, old_path, false);
     Ok(ReachedBoth {
-        caller: first.caller,
-        new: first.walk,
+        new,
         old: way_behind(walk),
     })
 }

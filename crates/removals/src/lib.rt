@@ -19,7 +19,7 @@ pub fn unlink(words: &mut [u32], index: &Index, call: Record) -> Answer
 {
     match reach(words, index, call, false) {
         Err(number) => Answer::Refused(number),
-        Ok(reached) => unlink_at(words, reached.caller, reached.walk),
+        Ok(reached) => unlink_at(words, reached),
     }
 }
 
@@ -29,6 +29,6 @@ pub fn rmdir(words: &mut [u32], index: &Index, call: Record) -> Answer
 {
     match reach(words, index, call, false) {
         Err(number) => Answer::Refused(number),
-        Ok(reached) => rmdir_at(words, reached.caller, reached.walk),
+        Ok(reached) => rmdir_at(words, reached),
     }
 }

@@ -8,9 +8,9 @@ use Rattle.holds.proofs.entry_held.Goals as goal
 
 pub returns-in-Some : goal.returns-in-Some
 returns-in-Some c =
-    let tables = unpack c.args.words.now in let caller = c.args.caller in let place = c.in-Some.place in
-    entry_held_is tables caller c.requires.1.0 (goal_of c.args.walk) place c.in-Some.ensures.1
+    let tables = unpack c.args.words.now in let caller = c.args.reached.caller in let place = c.in-Some.place in
+    entry_held_is tables caller c.requires.1.known (goal_of c.args.reached.walk) place c.in-Some.ensures.1
     (c.others_hold.ensures (λ processes. holds_on processes place caller.user) (record { told = λ w row r stands below answer. search rules }))
 
 pub returns-in-None : goal.returns-in-None
-returns-in-None c = none_entry_held (unpack c.args.words.now) c.args.caller.process (goal_of c.args.walk) c.in-None.ensures
+returns-in-None c = none_entry_held (unpack c.args.words.now) c.args.reached.caller.process (goal_of c.args.reached.walk) c.in-None.ensures

@@ -13,17 +13,17 @@ walk_part-walk-requires c =
     (ready.sound, (ready.indexed, path2_in ready.bytes ready.read c.requires.1.1))
 
 -- path 1 is refused
-pub returns-in_err-first : goal.returns-in_err-first
-returns-in_err-first c =
+pub returns-in_err-new : goal.returns-in_err-new
+returns-in_err-new c =
     let t = unpack c.args.words.now in
     let p = c.args.call.fields.process in
     let r = err_from_is_err_and c.from_residual.result c.from_residual.ensures.1 in
-    rw (r.1, r.2) (both_stopped t.processes p _ (told_refused t.processes p _ c.in_err-first.ensures))
+    rw (r.1, r.2) (both_stopped t.processes p _ (told_refused t.processes p _ c.in_err-new.ensures))
 
 -- or it leads somewhere
 pub returns : goal.returns
 returns c =
     let t = unpack c.args.words.now in
     let p = c.args.call.fields.process in
-    let new = told_open t.processes p _ c.in_ok-first.ensures in
+    let new = told_open t.processes p _ c.in_ok-new.ensures in
     both_walked t.processes p new.is_caller _ new.leads c.walk_part-walk.ensures c.way_behind.ensures

@@ -13,13 +13,13 @@ pub returns-then-not-is_root : goal.returns-then-not-is_root
 unfolding blocked
 returns-then-not-is_root c =
     let t = unpack c.args.words.now in
-    others_ask (entry_held t c.args.caller.process (goal_of c.args.walk))
-    (root_is t c.args.caller c.requires.known c.is_root.ensures) c.if-not-is_root.true c.entry_held.ensures
+    others_ask (entry_held t c.args.reached.caller.process (goal_of c.args.reached.walk))
+    (root_is t c.args.reached.caller c.requires.named.known c.is_root.ensures) c.if-not-is_root.true c.entry_held.ensures
 
 pub returns-else-not-is_root : goal.returns-else-not-is_root
 unfolding blocked
 returns-else-not-is_root c =
     let t = unpack c.args.words.now in
     ap not c.if-not-is_root.false
-    ∙ root_passes (entry_held t c.args.caller.process (goal_of c.args.walk))
-    (root_is t c.args.caller c.requires.known c.is_root.ensures) c.if-not-is_root.false
+    ∙ root_passes (entry_held t c.args.reached.caller.process (goal_of c.args.reached.walk))
+    (root_is t c.args.reached.caller c.requires.named.known c.is_root.ensures) c.if-not-is_root.false

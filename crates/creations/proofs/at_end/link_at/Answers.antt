@@ -56,7 +56,7 @@ returns c =
     let more : List Node → List Node = λ l. set_node n (one_more (node_at l n)) l in
     let old = one_more (node_at t.nodes (goal_of c.args.old).node) in
     let same = ap (λ k. set_node k (one_more (node_at t.nodes k)) t.nodes) is in
-    let changed = entered t (goal_of c.args.new) c.args.caller.process more old is same
+    let changed = entered t (goal_of c.args.new.walk) c.args.new.caller.process more old is same
     c.take_overruling.ensures c.add_entry.ensures c.add_one_entry.ensures in
     let room = c.lacks_room.ensures ∙ ap (no_room t) c.plan_holds-plan.ensures.is in
     let node = ap Done is in

@@ -60,7 +60,7 @@ returns c =
     let node : Node = record { kind = number_of c.args.kind; count = 1; target = c.args.target.now } in
     let found = found_row free_node (unpack w).nodes c.in-Some.ensures in
     let number = node_number w found.is in
-    let changed = entered (unpack w) (goal_of c.args.walk) c.args.caller.process (λ l. set l c.in-Some.row node) node number
+    let changed = entered (unpack w) (goal_of c.args.reached.walk) c.args.reached.caller.process (λ l. set l c.in-Some.row node) node number
     (node_made w found.is node) c.take_overruling.ensures c.add_entry.ensures c.set_node.ensures in
     let room = c.lacks_room.ensures ∙ ap (no_room (unpack w)) c.plan_holds-plan.ensures.is in
     let told = ap Done number in

@@ -11,13 +11,13 @@ use Rattle.looks.proofs.at_end.is_seen.Goals as goal
 pub returns-then-not-is_root : goal.returns-then-not-is_root
 returns-then-not-is_root c =
     let t = unpack c.args.words.now in
-    let caller = c.args.caller in
-    others_ask (end_held t caller.process (goal_of c.args.walk)) (root_is t caller c.requires.known c.is_root.ensures) c.if-not-is_root.true
+    let caller = c.args.reached.caller in
+    others_ask (end_held t caller.process (goal_of c.args.reached.walk)) (root_is t caller c.requires.named.known c.is_root.ensures) c.if-not-is_root.true
     c.end_held.ensures
 
 pub returns-else-not-is_root : goal.returns-else-not-is_root
 returns-else-not-is_root c =
     let t = unpack c.args.words.now in
-    let caller = c.args.caller in
+    let caller = c.args.reached.caller in
     ap not c.if-not-is_root.false
-    ∙ root_passes (end_held t caller.process (goal_of c.args.walk)) (root_is t caller c.requires.known c.is_root.ensures) c.if-not-is_root.false
+    ∙ root_passes (end_held t caller.process (goal_of c.args.reached.walk)) (root_is t caller c.requires.named.known c.is_root.ensures) c.if-not-is_root.false

@@ -17,7 +17,7 @@ returns-then-is_missing c = search (rules, refuses, passes)
 pub returns-then-is_seen : goal.returns-then-is_seen
 unfolding look_at
 returns-then-is_seen c =
-    let seen = is_seen (unpack c.args.words.now) c.args.caller.process (goal_of c.args.walk) c.is_seen.ensures c.if-is_seen.true in
+    let seen = is_seen (unpack c.args.words.now) c.args.reached.caller.process (goal_of c.args.reached.walk) c.is_seen.ensures c.if-is_seen.true in
     let node = ap Seen c.node_of-node.ensures in
     let same = unchanged c.requires.stands in
     search (rules, passes, meets_as, grants)
@@ -26,7 +26,7 @@ pub returns-then-lacks_room : goal.returns-then-lacks_room
 unfolding look_at hold_at
 returns-then-lacks_room c =
     let t = unpack c.args.words.now in
-    let held = is_held t c.args.caller.process (goal_of c.args.walk) c.is_seen.ensures c.if-is_seen.false in
+    let held = is_held t c.args.reached.caller.process (goal_of c.args.reached.walk) c.is_seen.ensures c.if-is_seen.false in
     let room = c.lacks_room.ensures ∙ ap (no_room t) c.plan_holds-plan.ensures.is in
     search (rules, refuses, passes, meets_as) depth 8
 
@@ -34,7 +34,7 @@ pub returns : goal.returns
 unfolding look_at hold_at
 returns c =
     let t = unpack c.args.words.now in
-    let held = is_held t c.args.caller.process (goal_of c.args.walk) c.is_seen.ensures c.if-is_seen.false in
+    let held = is_held t c.args.reached.caller.process (goal_of c.args.reached.walk) c.is_seen.ensures c.if-is_seen.false in
     let room = c.lacks_room.ensures ∙ ap (no_room t) c.plan_holds-plan.ensures.is in
     let node = ap Held c.node_of-node.ensures in
     search (rules, passes, meets_as, grants) depth 8

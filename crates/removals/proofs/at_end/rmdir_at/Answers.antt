@@ -44,5 +44,5 @@ returns c =
     let inside = c.has_any_entry.ensures ∙ ap (has_entries (unpack c.args.words.now).entries) c.node_of-node.ensures in
     let room = c.lacks_room.ensures ∙ ap (no_room t) c.plan_holds-plan.ensures.is in
     let node = ap Done c.node_of-node.ensures in
-    let changed = removed t (goal_of c.args.walk) c.node_of-node.ensures c.take_emptying.ensures c.drop_entry.ensures c.drop_one_entry.ensures in
+    let changed = removed t (goal_of c.args.reached.walk) c.node_of-node.ensures c.take_emptying.ensures c.drop_entry.ensures c.drop_one_entry.ensures in
     search (rules, passes, grants) depth 9

@@ -34,5 +34,5 @@ returns c =
     let t = unpack c.args.words.now in
     let room = c.lacks_room.ensures ∙ ap (no_room t) c.plan_holds-plan.ensures.is in
     let node = ap Done c.node_of-node.ensures in
-    let changed = removed t (goal_of c.args.walk) c.node_of-node.ensures c.take_overruling.ensures c.drop_entry.ensures c.drop_one_entry.ensures in
+    let changed = removed t (goal_of c.args.reached.walk) c.node_of-node.ensures c.take_overruling.ensures c.drop_entry.ensures c.drop_one_entry.ensures in
     search (rules, passes, grants) depth 9
