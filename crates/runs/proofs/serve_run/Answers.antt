@@ -8,7 +8,7 @@ use Rattle.model.specs.Answers.{answer_slot}
 use Rattle.runs.proofs.serve_run.Goals as goal
 
 pub loop-served-init : goal.loop-served-init
-loop-served-init c = going_starts (record { right = c.sound_and_index-is_sound.ensures.0; indexed = c.sound_and_index-is_sound.ensures.1 })
+loop-served-init c = going_starts (record { right = c.sound_and_index-index.ensures.0; indexed = c.sound_and_index-index.ensures.1 })
 
 pub slice_bounds-bytes-count : goal.slice_bounds-bytes-count
 slice_bounds-bytes-count c = omega (arith, c.loop-served.invariant.inside)
