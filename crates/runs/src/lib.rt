@@ -113,12 +113,7 @@ fn serve_whole(words: &mut [u32], index: &mut Option<Index>, bytes: &[u8]) -> Op
 }
 
 // One whole record over tables that were tested before.
-fn serve_found(
-    words: &mut [u32],
-    index: &mut Option<Index>,
-    bytes: &[u8],
-    found: Reading,
-) -> Answer
+fn serve_found(words: &mut [u32], index: &mut Option<Index>, bytes: &[u8], found: Reading) -> Answer
     requires { (Tested words.old index.old) × ((found ≡ reading bytes.now) × (cut_short found ≡ false)) }
     ensures { (Meets words.old (judged words.old bytes.now) result words.new) × (Tested words.new index.new) }
 {
