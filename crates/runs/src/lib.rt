@@ -1,6 +1,6 @@
 #![tactic(auto)]
 // Records served over lent tables, which are tested once: sound tables stay sound.
-ghost use Rattle.std.specs.Prelude.{◌≡◌, true, false, ◌<◌, Some};
+ghost use Rattle.std.specs.Prelude.{◌≡◌, true, false, ◌<◌, Some, is_some};
 ghost use Rattle.model.specs.Calls.{step};
 ghost use Rattle.model.specs.Answers.{answer_number, number_of, word_number};
 ghost use Rattle.model.specs.Serve.{judged, run};
@@ -87,7 +87,7 @@ pub fn told_answer(answer: Answer, taken: u64) -> u64
 // The record at the front of the bytes over tables that were tested before: what `service::serve` gives, and the test still holds.
 pub fn serve_tested(words: &mut [u32], index: &mut Option<Index>, bytes: &[u8]) -> Verdict
     requires { Tested words.old index.old }
-    ensures { (Serves words.old bytes.now result words.new) × (Tested words.new index.new) }
+    ensures { (Serves words.old bytes.now result words.new) × ((Tested words.new index.new) × (is_some index.new ≡ is_some index.old)) }
 {
     match serve_whole(words, index, bytes) {
         Some(verdict) => verdict,
@@ -101,7 +101,7 @@ pub fn serve_tested(words: &mut [u32], index: &mut Option<Index>, bytes: &[u8]) 
 // The same where the record is whole, and else nothing.
 fn serve_whole(words: &mut [u32], index: &mut Option<Index>, bytes: &[u8]) -> Option<Verdict>
     requires { Tested words.old index.old }
-    ensures { (ServesWhole words.old bytes.now result words.new) × (Tested words.new index.new) }
+    ensures { (ServesWhole words.old bytes.now result words.new) × ((Tested words.new index.new) × (is_some index.new ≡ is_some index.old)) }
 {
     let found = read(bytes);
     if is_cut_short(found) {
@@ -115,7 +115,7 @@ fn serve_whole(words: &mut [u32], index: &mut Option<Index>, bytes: &[u8]) -> Op
 // One whole record over tables that were tested before.
 fn serve_found(words: &mut [u32], index: &mut Option<Index>, bytes: &[u8], found: Reading) -> Answer
     requires { (Tested words.old index.old) × ((found ≡ reading bytes.now) × (cut_short found ≡ false)) }
-    ensures { (Meets words.old (judged words.old bytes.now) result words.new) × (Tested words.new index.new) }
+    ensures { (Meets words.old (judged words.old bytes.now) result words.new) × ((Tested words.new index.new) × (is_some index.new ≡ is_some index.old)) }
 {
     let Some(index) = index else {
         return Answer::Refused(UNSOUND);

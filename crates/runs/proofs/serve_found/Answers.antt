@@ -12,7 +12,7 @@ returns-in_default c =
     let tested = c.requires.0 in
     let found = c.requires.1 in
     let unsound = sym (ap is_some c.in_default.is) ∙ tested.right in
-    (judged_unsound c.args.words.now c.args.bytes.now c.args.found found.0 refl found.1 unsound refl, tested)
+    (judged_unsound c.args.words.now c.args.bytes.now c.args.found found.0 refl found.1 unsound refl, (tested, refl))
 
 pub serve_call-requires : goal.serve_call-requires
 serve_call-requires c =
@@ -30,7 +30,7 @@ returns-in-Err c =
     let tested = tested_some c.in-Some.is c.requires.0 in
     let found = c.requires.1 in (
       judged_broken c.args.words.now c.args.bytes.now c.args.found found.0 refl found.1 tested.right refl c.in-Err.is,
-      tested,
+      (tested, sym (ap is_some c.in-Some.is)),
     )
 
 pub returns-in-Ok : goal.returns-in-Ok
@@ -38,5 +38,5 @@ returns-in-Ok c =
     let tested = tested_some c.in-Some.is c.requires.0 in
     let found = c.requires.1 in (
       judged_call c.args.words.now c.args.bytes.now c.args.found found.0 refl found.1 tested.right refl c.in-Ok.is c.serve_call.ensures.0,
-      c.serve_call.ensures.1,
+      (c.serve_call.ensures.1, sym (ap is_some c.in-Some.is)),
     )

@@ -34,7 +34,7 @@ unfolding answer_slot
 loop-served-preserved c =
     let going = c.loop-served.invariant in
     let whole = c.in-Some.ensures in
-    goes_on going whole.0.0 whole.0.1 (omega (arith, going.slots_long)) whole.1 c.serve_whole.auto.words c.told_answer.ensures
+    goes_on going whole.0.0 whole.0.1 (omega (arith, going.slots_long)) whole.1.0 c.serve_whole.auto.words c.told_answer.ensures
 
 pub returns : goal.returns
 returns c =
