@@ -49,10 +49,9 @@ pub struct Part {
 // No line is longer.
 const LONGEST_LINE: usize = 35;
 
-// What stands before a line: the test of the tables, whether no bytes will come behind those that are there, and the line's place.
+// What stands before a line: whether no bytes will come behind those that are there, and the line's place.
 #[derive(Clone, Copy)]
 struct Setting {
-    is_sound: bool,
     last: bool,
     place: u64,
 }
@@ -60,13 +59,13 @@ struct Setting {
 // Serves the record at the front of the bytes and writes its line. The tables were tested and indexed before; the test still holds behind it.
 fn next_line(
     words: &mut [u32],
-    index: &mut Index,
+    index: &mut Option<Index>,
     bytes: &[u8],
     setting: Setting,
     out: &mut [u8],
 ) -> Step
-    requires { Tested words.old index.old setting.is_sound }
-    ensures { (stepped result words.new out.new ≡ next_line words.old bytes.now setting.last setting.place out.old) × (Tested words.new index.new setting.is_sound) }
+    requires { Tested words.old index.old }
+    ensures { (stepped result words.new out.new ≡ next_line words.old bytes.now setting.last setting.place out.old) × (Tested words.new index.new) }
 {
     if bytes.is_empty() {
         return if setting.last { Step::Over } else { Step::More };
@@ -74,7 +73,7 @@ fn next_line(
     if out.len() < LONGEST_LINE {
         return Step::Full;
     }
-    let verdict = serve_tested(words, index, bytes, setting.is_sound);
+    let verdict = serve_tested(words, index, bytes);
     let taken = verdict.taken;
     if taken == 0 && !setting.last {
         return Step::More;
