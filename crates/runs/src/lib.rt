@@ -83,7 +83,6 @@ pub fn told_answer(answer: Answer, taken: u64) -> u64
     }
 }
 
-// stays: no plainer: an Option<&mut Index> in the place of index and is_sound would be reborrowed for each record, and its None says no more than false.
 // The record at the front of the bytes over tables that were tested before: what `service::serve` gives, and the test still holds.
 pub fn serve_tested(words: &mut [u32], index: &mut Option<Index>, bytes: &[u8]) -> Verdict
     requires { Tested words.old index.old }
