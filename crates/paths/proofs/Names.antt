@@ -1,6 +1,6 @@
 -- The tests of one name: its bytes, its length, and the dots that no name may be. Assumes nothing.
-use mathlib.Core.Path.{◌≡◌, refl, sym, ◌∙◌}
-use mathlib.Core.Bool.{Bool, true, false, not, ◌&&◌, ◌||◌, true≢false, false≢true}
+use mathlib.Core.Path.{◌≡◌, refl}
+use mathlib.Core.Bool.{Bool, true, false, not, ◌&&◌, ◌||◌}
 use mathlib.Core.List.{List, [], ◌∷◌}
 use mathlib.Core.Logic.{◌⊎◌, inl, inr}
 use Prim.Native.Nat.{ℕ, ◌≤◌, ◌<◌}
@@ -13,7 +13,7 @@ use Rattle.std.proofs.Common.{nat_eq}
 use Rattle.std.specs.List.{list_all}
 use Rattle.model.specs.Lists.{same, all}
 use Rattle.model.specs.Paths.{dot, name_byte, valid_name}
-use Rattle.paths.specs.Split.{dots}
+use Rattle.paths.specs.Split.{dots, right_length}
 
 pub all_of : {A : Type 0} (f : A → Bool) (xs : List A) → list_all f xs ≡ all f xs
 unfolding all
@@ -39,46 +39,25 @@ dots_told n = rw (same_as n (dot ∷ []), same_as n (dot ∷ dot ∷ []))
 
 -- A NAME
 
-neither_of : (a s t : Bool) → (s || t) ≡ false → (a && not s && not t) ≡ a
-neither_of a true t e = absurd (true≢false e)
-neither_of a false true e = absurd (true≢false e)
-neither_of true false false e = refl
-neither_of false false false e = refl
-
-one_of : (a s t : Bool) → (s || t) ≡ true → (a && not s && not t) ≡ false
-one_of true true t e = refl
-one_of false true t e = refl
-one_of true false true e = refl
-one_of false false true e = refl
-one_of a false false e = absurd (false≢true e)
-
-pub name_out_of_bounds : (n : List ℕ) → (length n < 1) ⊎ (14 < length n) → valid_name n ≡ false
-unfolding valid_name
-name_out_of_bounds n (inl h) = rw (lt-leb 1 (length n) h)
-name_out_of_bounds n (inr h) = rw (le-leb 1 (length n) (omega arith), lt-leb (length n) 14 h)
-
-pub name_of_dots : (n : List ℕ) → dots n ≡ true → valid_name n ≡ false
-unfolding valid_name dots
-name_of_dots n e =
-    one_of (leb 1 (length n) && leb (length n) 14 && all name_byte n) (same n (dot ∷ [])) (same n (dot ∷ dot ∷ [])) e
-
-pub name_by_bytes : (n : List ℕ) → 1 ≤ length n → length n ≤ 14 → dots n ≡ false → valid_name n ≡ all name_byte n
-unfolding valid_name dots
-name_by_bytes n g h e =
-    rw (le-leb 1 (length n) g, le-leb (length n) 14 h) (neither_of (all name_byte n) (same n (dot ∷ [])) (same n (dot ∷ dot ∷ [])) e)
-
--- where each byte is right, the dots decide; where one is not, the name is not valid
-pub name_by_dots : (n : List ℕ) → 1 ≤ length n → length n ≤ 14 → all name_byte n ≡ true → not (dots n) ≡ valid_name n
-name_by_dots n g h a = go (dots n) refl
+-- a name is valid where its bytes are right, and its length with the dots
+pub name_apart : (n : List ℕ) → valid_name n ≡ (all name_byte n && right_length n)
+unfolding valid_name right_length dots
+name_apart n = go (leb 1 (length n)) (leb (length n) 14) (all name_byte n) (same n (dot ∷ [])) (same n (dot ∷ dot ∷ []))
   where
-    go : (t : Bool) → dots n ≡ t → not t ≡ valid_name n
-    go true e = sym (name_of_dots n e)
-    go false e = sym (name_by_bytes n g h e ∙ a)
+    go : (a b p s t : Bool) → (a && b && p && not s && not t) ≡ (p && (a && b && not (s || t)))
+    go true true true true t = refl
+    go true true true false t = refl
+    go true true false s t = refl
+    go true false true s t = refl
+    go true false false s t = refl
+    go false b true s t = refl
+    go false b false s t = refl
 
-pub name_broken : (n : List ℕ) → all name_byte n ≡ false → valid_name n ≡ false
-unfolding valid_name
-name_broken n e = rw e (go (leb 1 (length n) && leb (length n) 14) (not (same n (dot ∷ []))) (not (same n (dot ∷ dot ∷ []))))
-  where
-    go : (a s t : Bool) → (a && false && s && t) ≡ false
-    go true s t = refl
-    go false s t = refl
+pub length_out_of_bounds : (n : List ℕ) → (length n < 1) ⊎ (14 < length n) → right_length n ≡ false
+unfolding right_length
+length_out_of_bounds n (inl h) = rw (lt-leb 1 (length n) h)
+length_out_of_bounds n (inr h) = rw (le-leb 1 (length n) (omega arith), lt-leb (length n) 14 h)
+
+pub length_by_dots : (n : List ℕ) → 1 ≤ length n → length n ≤ 14 → right_length n ≡ not (dots n)
+unfolding right_length
+length_by_dots n g h = rw (le-leb 1 (length n) g, le-leb (length n) 14 h)

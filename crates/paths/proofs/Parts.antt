@@ -9,7 +9,7 @@ use lib.Dec.{eqb, ltb}
 use lib.ListN.{length, get_or, take, drop, length-take, length-drop, drop_of_length-le}
 use lib.Seq.{drop-cons, take_all}
 use borrow.Author.Tests.{eq-eqb, ne_eqb, eqb-true, ltb-false}
-use Rattle.std.specs.List.{slice_split, onto_first, position_or_len}
+use Rattle.std.specs.List.{position_or_len}
 use Rattle.std.specs.Option.{unwrap_or}
 use Rattle.std.specs.Prelude.{Option, Some, None}
 use Rattle.std.proofs.lemmas.List.Recursion.{is_position_or_len}
@@ -21,11 +21,11 @@ unfoldable pub behind : List ℕ → List (List ℕ)
 behind [] = []
 behind (b ∷ s) = parts s
 
-slash_first : (b : ℕ) (s : List ℕ) → eqb b slash ≡ true → parts (b ∷ s) ≡ [] ∷ parts s
+pub slash_first : (b : ℕ) (s : List ℕ) → eqb b slash ≡ true → parts (b ∷ s) ≡ [] ∷ parts s
 unfolding parts before
 slash_first b s e = simp (e, before)
 
-byte_first : (b : ℕ) (s part : List ℕ) (others : List (List ℕ)) → eqb b slash ≡ false → parts s ≡ part ∷ others
+pub byte_first : (b : ℕ) (s part : List ℕ) (others : List (List ℕ)) → eqb b slash ≡ false → parts s ≡ part ∷ others
     → parts (b ∷ s) ≡ (b ∷ part) ∷ others
 unfolding parts before
 byte_first b s part others e q = simp (e, q, before)
@@ -76,17 +76,6 @@ first_part_stops (b ∷ s) h = go (eqb b slash) refl h (first_part_stops s)
     go false e h f = rw (byte_goes_on b s e) (f (omega (arith, ap length (byte_goes_on b s e))))
 
 -- THE LIBRARY'S WORDS
-
--- the parts are what the library's `split` gives
-pub split_gives : (s : List ℕ) → slice_split (λ b. eqb b slash) s ≡ parts s
-unfolding parts before
-split_gives [] = refl
-split_gives (b ∷ s) = rw (split_gives s) (go (eqb b slash) (parts s))
-  where
-    go : (t : Bool) (ps : List (List ℕ)) → cond t ([] ∷ ps) (onto_first b ps) ≡ before t b ps
-    go true ps = refl
-    go false [] = refl
-    go false (part ∷ ps) = refl
 
 -- a first part ends where the library's `position` finds a slash
 pub slash_found : (s : List ℕ) → length (first_part s) ≡ position_or_len (λ b. eqb b slash) s

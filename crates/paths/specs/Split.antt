@@ -1,7 +1,7 @@
 -- The split of a path, by the model's `names`, and what the path test asks on its way. Assumes nothing.
-use Rattle.std.specs.Prelude.{Bool, true, false, ◌||◌, Option, None, Some, List, [], ◌∷◌, ℕ, ◌+◌, length, drop}
+use Rattle.std.specs.Prelude.{Bool, true, false, not, ◌&&◌, ◌||◌, leb, Option, None, Some, List, [], ◌∷◌, ℕ, ◌+◌, length, drop}
 use Rattle.model.specs.Lists.{same}
-use Rattle.model.specs.Paths.{dot, parts, absolute, names}
+use Rattle.model.specs.Paths.{longest_name, dot, parts, absolute, names}
 use Rattle.paths.specs.declared.Part.{Part}
 
 -- how many bytes stand in front of the first name: its slash, where it has one
@@ -28,3 +28,7 @@ first_part s = first_of (parts s)
 -- the two names that no name may be
 unfoldable pub dots : List ℕ → Bool
 dots n = same n (dot ∷ []) || same n (dot ∷ dot ∷ [])
+
+-- what a name has to meet beside its bytes
+unfoldable pub right_length : List ℕ → Bool
+right_length n = leb 1 (length n) && leb (length n) longest_name && not (dots n)

@@ -1,10 +1,10 @@
 #![tactic(auto)]
 // Paths as bytes: which are valid, and where the next name stands. Document 01, 'Paths'.
 // The test and the split are apart, so that a change of one leaves the other alone.
-ghost use Rattle.std.specs.Prelude.{true, ◌≡◌, ◌+◌, ◌≤◌, length, drop};
+ghost use Rattle.std.specs.Prelude.{◌≡◌, ◌+◌, ◌≤◌, length, drop};
 ghost use Rattle.model.specs.Lists.{all};
-ghost use Rattle.model.specs.Paths.{parts, names, name_byte, valid_name, valid_path, valid_target};
-ghost use Rattle.paths.specs.Split.{first_part, dots, next};
+ghost use Rattle.model.specs.Paths.{parts, names, valid_name, valid_path, valid_target};
+ghost use Rattle.paths.specs.Split.{first_part, dots, right_length, next};
 
 pub const SLASH: u8 = b'/';
 
@@ -58,10 +58,9 @@ pub fn valid_name(name: &[u8]) -> bool
     name.iter().all(|byte| *byte != 0 && *byte != SLASH) && valid_length(name)
 }
 
-// The length of a name, and the dots that no name may be, where each byte is right.
+// The length of a name, and the dots that no name may be.
 fn valid_length(name: &[u8]) -> bool
-    requires { all name_byte name.now ≡ true }
-    ensures { result ≡ valid_name name.now }
+    ensures { result ≡ right_length name.now }
 {
     (1..=LONGEST_NAME).contains(&name.len()) && !is_dots(name)
 }
@@ -74,11 +73,27 @@ fn valid_names(path: &[u8]) -> bool
     behind.is_empty() || valid_parts(behind)
 }
 
-// What stands between the slashes, empty parts too.
+// What stands between the slashes, empty parts too: each byte is read once, up to the first that settles it. Letters and digits come behind the slash,
+// so that one test passes them by.
 fn valid_parts(path: &[u8]) -> bool
     ensures { result ≡ all valid_name (parts path.now) }
 {
-    path.split(|byte| *byte == SLASH).all(valid_name)
+    let mut start = 0;
+    for (at, byte) in path.iter().enumerate() {
+        if SLASH < *byte {
+            continue;
+        }
+        if *byte == 0 {
+            return false;
+        }
+        if *byte == SLASH {
+            if !valid_length(&path[start..at]) {
+                return false;
+            }
+            start = at + 1;
+        }
+    }
+    valid_length(&path[start..])
 }
 
 // The first slash from a position on, or else the end.
