@@ -12,7 +12,6 @@ use Rattle.std.specs.List.{list_any}
 use Rattle.std.specs.Prelude.{Some, None}
 use lib.ListN.{length, get_or, set, take, drop, length-append, length-take, length-map, drop_of_length-le}
 use lib.Seq.{take_all, take-suc}
-use Rattle.arrayvec.specs.ArrayVec.{array_vec_len}
 use Rattle.model.specs.Lists.{same, filled, any, count, put, put_all}
 use Rattle.model.specs.Tables as model_tables
 use Rattle.model.specs.Tables.{Tables, Hold, free_hold, end_role, element_role, same_place, with_holds}
@@ -62,17 +61,17 @@ unfolding Named name_of hold_of place_of pack_hold unpack_hold free_hold pack_na
 blank_fine = record { good = record { words = refl; fits = refl }; name = refl; role = omega arith }
 
 module _ (p : Plan) where
-  planned_long : length (planned_holds p) ≡ array_vec_len p
+  planned_long : length (planned_holds p) ≡ length p
   unfolding planned_holds
-  planned_long = length-map p.items hold_of
+  planned_long = length-map p hold_of
 
-  pub room_is : (t : Tables) {n : ℕ} → n ≡ count free_hold t.holds → ltb n (array_vec_len p) ≡ no_room t (planned_holds p)
+  pub room_is : (t : Tables) {n : ℕ} → n ≡ count free_hold t.holds → ltb n (length p) ≡ no_room t (planned_holds p)
   unfolding no_room
-  room_is t e = ap (λ k. ltb k (array_vec_len p)) e ∙ ap (ltb (count free_hold t.holds)) (sym planned_long)
+  room_is t e = ap (λ k. ltb k (length p)) e ∙ ap (ltb (count free_hold t.holds)) (sym planned_long)
 
   -- where nothing is planned nothing is lacking
-  pub room_for_none : (t : Tables) → array_vec_len p ≡ 0 → false ≡ no_room t (planned_holds p)
-  room_for_none t z = sym (le-ltb (count free_hold t.holds) (array_vec_len p) (omega arith)) ∙ room_is t refl
+  pub room_for_none : (t : Tables) → length p ≡ 0 → false ≡ no_room t (planned_holds p)
+  room_for_none t z = sym (le-ltb (count free_hold t.holds) (length p) (omega arith)) ∙ room_is t refl
 
 -- ONE HOLD WISHED FOR
 
@@ -97,14 +96,14 @@ module _ (have : List Hold) (p : Plan) (ok : Planned p) (h : HoldRow) where
         (any_append (same_hold (hold_of h)) (planned_holds p) have
         ∙ ap (λ x. x || any (same_hold (hold_of h)) have) (sym f ∙ u))
 
-    pub planned_new : c ≡ false → array_vec_len p < plan_room → Fine h → {q : Plan} → q.items ≡ p.items ++ (h ∷ []) → Wished have p h q
+    pub planned_new : c ≡ false → length p < plan_room → Fine h → {q : Plan} → q ≡ p ++ (h ∷ []) → Wished have p h q
     unfolding planned_holds lacking
     planned_new u room fine e' =
         let none : any (same_hold (hold_of h)) (planned_holds p ++ have) ≡ false
         = any_append (same_hold (hold_of h)) (planned_holds p) have ∙ neither (sym f ∙ u) (sym e ∙ t) in
-        let long : length (p.items ++ (h ∷ [])) ≡ length p.items + 1 = length-append p.items (h ∷ []) in
+        let long : length (p ++ (h ∷ [])) ≡ length p + 1 = length-append p (h ∷ []) in
         record {
-          is = ap (map hold_of) e' ∙ map-append hold_of p.items (h ∷ [])
+          is = ap (map hold_of) e' ∙ map-append hold_of p (h ∷ [])
               ∙ ap (λ l. planned_holds p ++ l) (sym (had_not (planned_holds p ++ have) (hold_of h) [] none));
           planned = record { few = omega (arith, ap length e', long); fine = subst (Each Fine) (sym e') (each_append ok.fine (one fine no_row)) };
           more = omega (arith, ap length e', long);
@@ -113,7 +112,7 @@ module _ (have : List Hold) (p : Plan) (ok : Planned p) (h : HoldRow) where
 -- A PLAN GROWS BY ONE HOLD
 
 module _ (have : List Hold) where
-  pub plan_none : {q : Plan} → q.items ≡ [] → PlanFor have [] q
+  pub plan_none : {q : Plan} → q ≡ [] → PlanFor have [] q
   unfolding planned_holds lacking
   plan_none e =
       record {
@@ -150,7 +149,7 @@ elements_few p n elements =
     omega (arith, length-map (map place_at (take n elements)) (hold_by p element_role), length-map (take n elements) place_at, taken_few n elements)
 
 module _ (p : ℕ) (elements : List Place) (have : List Hold) where
-  pub gather_begin : {q : Plan} → q.items ≡ [] → PlanFor have (element_holds p 0 elements) q
+  pub gather_begin : {q : Plan} → q ≡ [] → PlanFor have (element_holds p 0 elements) q
   unfolding element_holds
   gather_begin e = plan_none have e
 
@@ -230,9 +229,7 @@ one_list (x ∷ xs) (y ∷ ys) f g e =
 
 pub one_plan : {have wants : List Hold} {p q : Plan} → PlanFor have wants p → PlanFor have wants q → p ≡ q
 unfolding planned_holds
-one_plan {p = p} {q = q} a b =
-    let items : p.items ≡ q.items = one_list p.items q.items a.planned.fine b.planned.fine (a.is ∙ sym b.is) in
-    ap (λ (l : List HoldRow). record { items = l }) items
+one_plan {p = p} {q = q} a b = one_list p q a.planned.fine b.planned.fine (a.is ∙ sym b.is)
 
 -- ADDING
 

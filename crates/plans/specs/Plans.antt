@@ -1,6 +1,5 @@
 -- Holds to be taken as the code plans them, and what the model takes. Assumes nothing.
 use Rattle.std.specs.Prelude.{◌≡◌, Bool, true, false, ◌&&◌, List, [], ◌∷◌, ◌++◌, map, ℕ, ◌+◌, ◌≤◌, ◌<◌, length, get_or, take, eqb}
-use Rattle.arrayvec.specs.ArrayVec.{ArrayVec, array_vec_len}
 use Rattle.model.specs.Lists.{put}
 use Rattle.model.specs.Tables.{Hold, element_role, no_hold, free_hold}
 use Rattle.model.specs.Holds.{of_process, hold_by, lacking, copy_for}
@@ -33,21 +32,21 @@ plan_room = 9
 
 -- the holds to be taken, in the order in which they are taken
 abbrev pub Plan : Type 0
-Plan = ArrayVec HoldRow
+Plan = List HoldRow
 
 pub record Planned (p : Plan) : Type 0 where
-  pub few : array_vec_len p ≤ plan_room
-  pub fine : Each Fine p.items
+  pub few : length p ≤ plan_room
+  pub fine : Each Fine p
 
 -- the holds of a plan, in the order in which they are taken
 unfoldable pub planned_holds : Plan → List Hold
-planned_holds p = map hold_of p.items
+planned_holds p = map hold_of p
 
 -- one hold wished for is planned where it is lacking
 pub record Wished (have : List Hold) (p : Plan) (h : HoldRow) (q : Plan) : Type 0 where
   pub is : planned_holds q ≡ planned_holds p ++ lacking (planned_holds p ++ have) (hold_of h ∷ [])
   pub planned : Planned q
-  pub more : array_vec_len q ≤ array_vec_len p + 1
+  pub more : length q ≤ length p + 1
 
 -- a place whose hold is no free row: directory 0 marks those
 pub record PlaceUsed (q : Place) : Type 0 where
@@ -76,7 +75,7 @@ element_holds p n elements = map (hold_by p element_role) (map place_at (take n 
 pub record PlanFor (have wants : List Hold) (q : Plan) : Type 0 where
   pub is : planned_holds q ≡ lacking have wants
   pub planned : Planned q
-  pub few : array_vec_len q ≤ length wants
+  pub few : length q ≤ length wants
 
 -- fork: the hold of a row copied for the child, where it is the parent's
 unfoldable pub copied_at : ℕ → ℕ → ℕ → List Hold → List Hold

@@ -1,7 +1,6 @@
 #![tactic(auto)]
 // Holds taken over the lent words: planned before anything is written, and fork's copies. Each is what the model's definition of that name gives.
-ghost use Rattle.std.specs.Prelude.{◌≢◌, ◌≡◌, ◌≤◌, ◌<◌};
-ghost use Rattle.arrayvec.specs.ArrayVec.{array_vec_len};
+ghost use Rattle.std.specs.Prelude.{[], ◌∷◌, ◌++◌, ◌≢◌, ◌≡◌, ◌≤◌, ◌<◌, length};
 ghost use Rattle.model.specs.Lists.{any, count, put};
 ghost use Rattle.model.specs.Tables.{hold_rows, free_hold, with_holds};
 ghost use Rattle.model.specs.Sound.{same_hold};
@@ -13,18 +12,67 @@ ghost use Rattle.rows.specs.Stands.{Stands, Becomes};
 ghost use Rattle.goals.specs.Goals.{goal_of, WalkNamed};
 ghost use Rattle.plans.specs.Plans.{Fine, plan_room, Planned, same_rows, planned_holds, wanted_row, element_holds, Wished, WalkUsed, PlanFor, copied_at};
 
-use arrayvec::ArrayVec;
 use edits::set_hold;
 use goals::{Place, Stop, Walk};
-use rows::{ELEMENT, END, HOLD_ROWS, HoldRow, hold_directory, hold_name, hold_process, hold_role};
+use rows::{
+    ELEMENT, END, HOLD_ROWS, HoldRow, hold_directory, hold_name, hold_process, hold_role,
+    same_blocks,
+};
 use search::{free_hold_row, free_hold_rows, has_hold};
+use std::marker::Model;
 
 // How many holds one call can lack: those on eight elements and on the end.
 pub const PLAN_ROOM: usize = 9;
 
-// Holds to be taken, in their order.
-// stays: no plainer: Planned says that each is a hold, which no ArrayVec does; a struct around one would have to pass on each of its methods.
-pub type Plan = ArrayVec<HoldRow, PLAN_ROOM>;
+// Holds to be taken, in their order, which is the list that a clause sees. Unused room is blank.
+// stays: what may not change: a plan may hold any rows, as it could; Planned is asked where they are compared and written.
+#[derive(Clone, Copy)]
+pub struct Plan {
+    pub count: usize,
+    pub rows: [HoldRow; PLAN_ROOM],
+}
+
+impl Model for Plan {
+    ghost use Rattle.std.specs.Prelude.{List};
+    ghost use Rattle.rows.specs.declared.HoldRow.{HoldRow};
+
+    ghost Value = { List HoldRow };
+
+    ghost use Rattle.plans.specs.Room.{used_rows, Padded, padded, padded_back};
+
+    ghost view = { used_rows };
+
+    ghost invariant = { Padded };
+
+    ghost inverse = { padded };
+
+    ghost inverse_ok = { padded_back };
+}
+
+impl Plan {
+    fn new() -> Plan
+        ensures { result ≡ [] }
+    {
+        Plan {
+            count: 0,
+            rows: [HoldRow::default(); PLAN_ROOM],
+        }
+    }
+
+    fn as_slice(&self) -> &[HoldRow]
+        ensures { result.now ≡ self.now }
+    {
+        &self.rows[..self.count]
+    }
+
+    fn push(&mut self, hold: HoldRow)
+        requires { length self.old < plan_room }
+        ensures { self.new ≡ self.old ++ hold ∷ [] }
+    {
+        self.rows[self.count] = hold;
+        self.count += 1;
+    }
+}
 
 // Every row of a hold is built here.
 fn hold_row(place: Place, process: u16, role: u8) -> HoldRow
@@ -42,7 +90,10 @@ fn hold_row(place: Place, process: u16, role: u8) -> HoldRow
 fn same_holds(a: HoldRow, b: HoldRow) -> bool
     ensures { result ≡ same_rows a b }
 {
-    a.process == b.process && a.role == b.role && a.directory == b.directory && a.name == b.name
+    a.process == b.process
+        && a.role == b.role
+        && a.directory == b.directory
+        && same_blocks(a.name, b.name)
 }
 
 fn is_planned(plan: &Plan, hold: HoldRow) -> bool
@@ -54,7 +105,7 @@ fn is_planned(plan: &Plan, hold: HoldRow) -> bool
 
 // Plans one hold more, where it is lacking.
 fn wish(words: &[u32], plan: &mut Plan, hold: HoldRow)
-    requires { (Stands words.now) × ((Planned plan.old) × ((array_vec_len plan.old < plan_room) × (Fine hold))) }
+    requires { (Stands words.now) × ((Planned plan.old) × ((length plan.old < plan_room) × (Fine hold))) }
     ensures { Wished (unpack words.now).holds plan.old hold plan.new }
 {
     if !has_hold(words, hold) && !is_planned(plan, hold) {
@@ -89,7 +140,8 @@ pub fn lacks_room(words: &[u32], plan: &Plan) -> bool
     requires { (Stands words.now) × (Planned plan.now) }
     ensures { result ≡ no_room (unpack words.now) (planned_holds plan.now) }
 {
-    !plan.is_empty() && free_hold_rows(words) < plan.len()
+    let lacking = plan.as_slice();
+    !lacking.is_empty() && free_hold_rows(words) < lacking.len()
 }
 
 fn add_hold(words: &mut [u32], hold: HoldRow)
@@ -112,13 +164,18 @@ pub fn add_planned(words: &mut [u32], plan: &Plan)
 
 // FORK'S COPIES
 
+// stays: tried, and it misses a bar of speed: `filter(..).count()` here and in search::free_hold_rows jumps at each row, and took 1.6 times as long.
 pub fn count_of_process(words: &[u32], process: u16) -> usize
     requires { Stands words.now }
     ensures { result ≡ count (of_process process) (unpack words.now).holds }
 {
-    (0..HOLD_ROWS)
-        .filter(|row| hold_process(words, *row) == process)
-        .count()
+    let mut count = 0;
+    for row in 0..HOLD_ROWS {
+        if hold_process(words, row) == process {
+            count += 1;
+        }
+    }
+    count
 }
 
 fn copy_row(words: &mut [u32], row: usize, parent: u16, child: u16)

@@ -17,6 +17,7 @@ ghost use Rattle.search.specs.Rows.{first_row};
 use rows::{
     Block, ENTRY_ROWS, HOLD_ROWS, HoldRow, NODE_ROWS, PROCESS_ROWS, entry_directory, entry_name,
     hold_directory, hold_name, hold_process, hold_role, kind_in, process_number, process_user,
+    same_blocks,
 };
 
 // The user whom no hold keeps out.
@@ -73,7 +74,7 @@ pub fn entry_is_at(words: &[u32], row: usize, directory: u16, name: Block) -> bo
     requires { (Stands words.now) × ((row < entry_rows) × (Named name)) }
     ensures { result ≡ at (place_of directory name) (entry_row words.now row) }
 {
-    entry_directory(words, row) == directory && entry_name(words, row) == name
+    entry_directory(words, row) == directory && same_blocks(entry_name(words, row), name)
 }
 
 // Whether any entry stands in the directory.
@@ -91,7 +92,7 @@ pub fn hold_is_on(words: &[u32], row: usize, directory: u16, name: Block) -> boo
     requires { (Stands words.now) × ((row < hold_rows) × (Named name)) }
     ensures { result ≡ on (some (place_of directory name)) (hold_row words.now row) }
 {
-    hold_directory(words, row) == directory && hold_name(words, row) == name
+    hold_directory(words, row) == directory && same_blocks(hold_name(words, row), name)
 }
 
 // Whether the hold of a row is this one.
@@ -116,9 +117,13 @@ pub fn free_hold_rows(words: &[u32]) -> usize
     requires { Stands words.now }
     ensures { result ≡ count free_hold (unpack words.now).holds }
 {
-    (0..HOLD_ROWS)
-        .filter(|row| hold_directory(words, *row) == 0)
-        .count()
+    let mut free = 0;
+    for row in 0..HOLD_ROWS {
+        if hold_directory(words, row) == 0 {
+            free += 1;
+        }
+    }
+    free
 }
 
 // THE LOWEST FREE ROW of each table, if one is free

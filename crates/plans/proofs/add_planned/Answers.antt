@@ -10,7 +10,7 @@ loop-row-init c = add_begin c.as_slice-row-items.result.now c.requires.0
 
 pub add_hold-requires : goal.add_hold-requires
 add_hold-requires c =
-    (c.loop-row.invariant.stands, each_at (subst (Each Fine) (sym c.as_slice-row-items.ensures.value) c.requires.1.fine) blank_fine c.loop-row.row-index)
+    (c.loop-row.invariant.stands, each_at (subst (Each Fine) (sym c.as_slice-row-items.ensures) c.requires.1.fine) blank_fine c.loop-row.row-index)
 
 pub loop-row-preserved : goal.loop-row-preserved
 loop-row-preserved c = add_on c.as_slice-row-items.result.now c.loop-row.row-index blank_row c.loop-row-test.true c.loop-row.invariant c.add_hold.ensures
@@ -18,5 +18,5 @@ loop-row-preserved c = add_on c.as_slice-row-items.result.now c.loop-row.row-ind
 pub returns : goal.returns
 unfolding planned_holds
 returns c =
-    rw (← c.as_slice-row-items.ensures.value)
+    rw (← c.as_slice-row-items.ensures)
     (add_end c.as_slice-row-items.result.now c.loop-row.row-index c.loop-row-test.false c.loop-row.invariant)

@@ -11,6 +11,6 @@ use Rattle.plans.proofs.is_planned.Goals as goal
 pub returns : goal.returns
 unfolding planned_holds
 returns c =
-    let hold = c.args.hold in let rows = c.args.plan.now.items in
+    let hold = c.args.hold in let rows = c.args.plan.now in
     any_from_yields_List (same_rows hold) _ _ c.any.result c.any.ensures.ran (YieldsList-from_slice rows (cc)) (λ x b q h. search (rules, tests))
     ∙ any_same hold c.requires.1 rows c.requires.0.fine

@@ -7,4 +7,4 @@ pub returns-then-a-b-3 : goal.returns-then-a-b-3
 unfolding same_block
 returns-then-a-b-3 c =
     let a = c.args.a in let b = c.args.b in let same = c.if-a-b-3.true in
-    simp (eq-eqb a.process b.process same.0, eq-eqb a.role b.role same.1, eq-eqb a.directory b.directory same.2) c.eq.ensures
+    simp (eq-eqb a.process b.process same.0, eq-eqb a.role b.role same.1, eq-eqb a.directory b.directory same.2) c.same_blocks.ensures

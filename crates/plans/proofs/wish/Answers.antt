@@ -7,7 +7,7 @@ use Rattle.plans.proofs.wish.Goals.{else-not-has_hold-via-then-not-has_hold+else
 pub returns-then-not-is_planned : goal.returns-then-not-is_planned
 returns-then-not-is_planned c =
     planned_new (unpack c.args.words.now).holds c.args.plan.now c.requires.1.0 c.args.hold c.has_hold.ensures c.if-not-has_hold.true
-    c.is_planned.ensures c.if-not-is_planned.true c.requires.1.1.0 c.requires.1.1.1 c.push.ensures.items
+    c.is_planned.ensures c.if-not-is_planned.true c.requires.1.1.0 c.requires.1.1.1 c.push.ensures
 
 pub returns-else-not-has_hold : goal.returns-else-not-has_hold
 returns-else-not-has_hold c =

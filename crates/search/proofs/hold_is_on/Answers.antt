@@ -3,7 +3,6 @@ use mathlib.Core.Path.{◌∙◌}
 use borrow.Author.Tests.{ne_eqb}
 use Rattle.model.specs.Holds.{on}
 use Rattle.rows.proofs.Fields.{hold_row_fits}
-use Rattle.rows.specs.Blocks.{same_block}
 use Rattle.rows.specs.Stands.{hold_row}
 use Rattle.search.proofs.Tests.{name_decides, place_differs}
 use Rattle.search.proofs.hold_is_on.Goals as goal
@@ -17,9 +16,9 @@ returns-else-hold_directory-directory c =
     ∙ place_differs (hold_row w row).place (hold_row_fits w row).name c.args.directory c.args.name c.hold_directory.ensures c.if-hold_directory-directory.false
 
 pub returns-then-hold_directory-directory : goal.returns-then-hold_directory-directory
-unfolding same_block on
+unfolding on
 returns-then-hold_directory-directory c =
     let w = c.args.words.now in
     let row = c.args.row in
     name_decides (hold_row w row).place (hold_row_fits w row).name c.args.directory c.args.name c.requires.1.1
-    c.hold_directory.ensures c.if-hold_directory-directory.true c.hold_name.ensures c.eq.ensures
+    c.hold_directory.ensures c.if-hold_directory-directory.true c.hold_name.ensures c.same_blocks.ensures
