@@ -1,15 +1,12 @@
 -- Packing, step by step: the fault of the fields, then the room, then the bytes. Assumes nothing.
 use mathlib.Core.Path.{◌≡◌, refl, ◌∙◌}
 use mathlib.Core.List.{List, ◌++◌}
-use Prim.Native.Nat.{ℕ, ◌+◌, ◌-◌, ◌^◌, ◌≤◌, ◌<◌}
-use native.Mathlib.Omega.{arith}
+use Prim.Native.Nat.{ℕ, ◌+◌, ◌^◌, ◌≤◌, ◌<◌}
 use lib.ListN.{length, drop, length-append}
 use lib.Seq.{drop-drop, paste}
 use borrow.Author.Tests.{lt-ltb, le-ltb}
 use Rattle.model.specs.Refusals.{refused, granted, ◌>>◌, ◌>>=◌}
 use Rattle.model.specs.Records.{Call, well_formed, head, head_bytes, write, record_length, packing, packed}
-use borrow.Rule.Slice.PartMut.{put_mid}
-use Rattle.std.proofs.lemmas.Slice.{put_mid-paste}
 use Rattle.laws.proofs.Copies.{paste_behind}
 use Rattle.invariants.proofs.Accepted.{accepted_fits}
 use Rattle.fields.specs.declared.Numbers.{Numbers}
@@ -52,14 +49,11 @@ bytes_written c d =
     )
 
 -- what the code did: the head, path 1, path 2
-pub record_written : (n : Numbers) (p q d : List ℕ) (h : ℕ) (d₁ a b : List ℕ) → h ≡ joined_head n (length p) (length q)
-    → d₁ ≡ head_bytes h ++ drop 7 d → a ≡ p → b ≡ q
-    → put_mid (7 + length p) (7 + length p + length q - (7 + length p)) (put_mid 7 (7 + length p - 7) d₁ a) b
-    ≡ write (given n p q) ++ drop (7 + length p + length q) d
+pub record_written : (n : Numbers) (p q d : List ℕ) (h : ℕ) (d₁ d₂ d₃ : List ℕ) → h ≡ joined_head n (length p) (length q)
+    → d₁ ≡ head_bytes h ++ drop 7 d → d₂ ≡ paste d₁ 7 p (length p) → d₃ ≡ paste d₂ (7 + length p) q (length q)
+    → d₃ ≡ write (given n p q) ++ drop (7 + length p + length q) d
 unfolding record_length head joined_head
-record_written n p q d h d₁ a b e e₁ ea eb =
-    put_mid-paste _ _ _ b q (length q) eb (omega arith) refl
-    ∙ rw (put_mid-paste 7 (7 + length p - 7) d₁ a p (length p) ea (omega arith) refl, e₁, e) (bytes_written (given n p q) d)
+record_written n p q d h d₁ d₂ d₃ e e₁ e₂ e₃ = e₃ ∙ rw (e₂, e₁, e) (bytes_written (given n p q) d)
 
 -- the numbers of a call that is to be packed
 abbrev pub numbers : ℕ → ℕ → ℕ → Numbers

@@ -1,6 +1,7 @@
 #![tactic(auto)]
 // The record of a call, read and packed. Document 01, 'The thirteen calls' and 'Numbers given back'.
-ghost use Rattle.std.specs.Prelude.{◌≡◌, ◌++◌, ◌+◌, ◌<◌, length, drop};
+ghost use Rattle.std.specs.Prelude.{◌≡◌, ◌++◌, ◌+◌, ◌≤◌, ◌<◌, length, drop};
+ghost use Rattle.std.proofs.Math.Seq.{paste};
 ghost use Rattle.model.specs.Records.{write};
 ghost use Rattle.fields.specs.Given.{given, Writes};
 ghost use Rattle.records.specs.Reading.{cut_short, fields_at, reading, taken_of};
@@ -135,9 +136,18 @@ fn write_record(numbers: Numbers, path1: &[u8], path2: &[u8], destination: &mut 
     ensures { destination.new ≡ write (given numbers path1.now path2.now) ++ drop (7 + length path1.now + length path2.now) destination.old }
 {
     let middle = HEAD_LENGTH + path1.len();
-    let length = middle + path2.len();
     let head = heads::joined_head(numbers, path1.len(), path2.len());
     heads::write_head(destination, head);
-    destination[HEAD_LENGTH..middle].copy_from_slice(path1);
-    destination[middle..length].copy_from_slice(path2);
+    copy_to(destination, HEAD_LENGTH, path1);
+    copy_to(destination, middle, path2);
+}
+
+// stays: the C interface: of this loop the compiler makes a memcpy; `copy_from_slice` becomes a memmove, which the archive would need besides.
+fn copy_to(destination: &mut [u8], at: usize, source: &[u8])
+    requires { at + length source.now ≤ length destination.old }
+    ensures { destination.new ≡ paste destination.old at source.now (length source.now) }
+{
+    for (i, byte) in source.iter().enumerate() {
+        destination[at + i] = *byte;
+    }
 }

@@ -5,4 +5,4 @@ use Rattle.records.proofs.write_record.Goals as goal
 pub returns : goal.returns
 returns c =
     record_written _ _ _ c.args.destination.now _ _ _ _ c.joined_head-head.ensures c.write_head.ensures
-    c.copy_from_slice.ensures.after c.copy_from_slice-2.ensures.after
+    c.copy_to.ensures c.copy_to-2.ensures
