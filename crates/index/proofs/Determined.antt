@@ -3,10 +3,8 @@ use mathlib.Core.Path.{sym, ap, ◌∙◌}
 use Prim.Native.Nat.{ℕ}
 use mir.Syntax.{w64}
 use mir.Val.{Fits}
-use Rattle.std.specs.Prelude.{is_some}
 use Rattle.laws.proofs.Results.{OneResult, OneExit}
 use Rattle.index.proofs.Descents.{counted_one}
-use Rattle.index.proofs.Verdicts.{OneVerdict}
 use Rattle.index.proofs.Links.new.Kinds as new_kinds
 use Rattle.index.proofs.Links.new.Reads as new_reads
 use Rattle.index.proofs.Links.link_row.Kinds as link_row_kinds
@@ -20,8 +18,8 @@ use Rattle.index.proofs.node_found.Reads as node_found_reads
 use Rattle.index.proofs.sum_of.Kinds as sum_of_kinds
 use Rattle.index.proofs.sum_of.Reads as sum_of_reads
 
--- whether there is one; the links of free rows are left open
-pub index_entries_determined : OneVerdict 1 index_entries_kinds.ps index_entries_kinds.r index_entries_reads.Post (λ κs x. is_some x)
+-- the verdict; the links of free rows are left open
+pub index_entries_determined : OneResult 2 index_entries_kinds.ps index_entries_kinds.r index_entries_reads.Post
 index_entries_determined κs a x y s t p q = p.0 ∙ sym q.0
 
 pub find_entry_determined : OneResult 2 find_entry_kinds.ps find_entry_kinds.r find_entry_reads.Post

@@ -120,11 +120,11 @@ module _ (w : List ℕ) {x : Index} where
       building_twice = apart_twice (comparable w) g r this_used same_last
 
   pub building_ends : {i : ℕ} → Stands w → Building w x i → entry_rows ≤ i
-      → (true ≡ entries_distinct (unpack w)) × Indexed w x
+      → (true ≡ entries_distinct (unpack w)) × (◌≡◌ {A = Bool} true true → Indexed w x)
   unfolding entries_distinct
   building_ends s g h =
       let d = apart_ends (comparable w) g h in
-      (d, record { stands = s; chained = all_chained (comparable w) g h; distinct = sym d })
+      (d, λ _. record { stands = s; chained = all_chained (comparable w) g h; distinct = sym d })
 
 -- A LOOKUP BY IT
 

@@ -4,4 +4,3 @@ pub mod Descents
 pub mod Determined
 pub mod Entries
 pub mod Places
-pub mod Verdicts

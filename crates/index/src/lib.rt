@@ -1,7 +1,7 @@
 #![tactic(auto)]
 // Chains of rows by bucket, and by them the entries found by directory and name without a scan. The index is stale after a write to the
 // entries.
-ghost use Rattle.std.specs.Prelude.{◌≡◌, ◌≢◌, ◌≤◌, ◌<◌, IfSome, is_some, slice_index};
+ghost use Rattle.std.specs.Prelude.{◌≡◌, true, ◌≢◌, ◌≤◌, ◌<◌, slice_index};
 ghost use Rattle.model.specs.Tables.{entry_rows};
 ghost use Rattle.model.specs.Sound.{entries_distinct};
 ghost use Rattle.model.specs.Words.{unpack};
@@ -67,12 +67,11 @@ impl<const SIZE: usize, const ROWS: usize> Links<SIZE, ROWS> {
 // stays: it goes beside the words, a lent &[u32] by document 01 (rule of the project), so that its fact is one of both and of no type alone.
 pub type Index = Links<BUCKETS, ENTRY_ROWS>;
 
-// The index of the used entries, where they differ in directory and name.
-pub fn index_entries(words: &[u32]) -> Option<Index>
-    requires { Stands words.now }
-    ensures { (is_some result ≡ entries_distinct (unpack words.now)) × IfSome result (Indexed words.now) }
+// Whether the used entries differ in directory and name; and where they do, their index.
+pub fn index_entries(words: &[u32], index: &mut Index) -> bool
+    requires { (Stands words.now) × (index.old ≡ no_links) }
+    ensures { (result ≡ entries_distinct (unpack words.now)) × (result ≡ true → Indexed words.now index.new) }
 {
-    let mut index = Index::new();
     for row in 0..ENTRY_ROWS {
         let directory = entry_directory(words, row);
         if directory != 0 {
@@ -80,12 +79,12 @@ pub fn index_entries(words: &[u32]) -> Option<Index>
             let bucket = bucket_of(directory, name);
             let alike = |other| entry_is_at(words, other, directory, name);
             if index.last_in_chain(bucket, alike).is_some() {
-                return None;
+                return false;
             }
             index.link_row(bucket, row);
         }
     }
-    Some(index)
+    true
 }
 
 // The row of the entry at a place.

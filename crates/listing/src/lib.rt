@@ -49,9 +49,10 @@ pub struct Part {
 // No line is longer.
 const LONGEST_LINE: usize = 35;
 
-// What stands before a line: whether no bytes will come behind those that are there, and the line's place.
+// What stands before a line: the test of the tables, whether no bytes will come behind those that are there, and the line's place.
 #[derive(Clone, Copy)]
 struct Setting {
+    is_sound: bool,
     last: bool,
     place: u64,
 }
@@ -59,13 +60,13 @@ struct Setting {
 // Serves the record at the front of the bytes and writes its line. The tables were tested and indexed before; the test still holds behind it.
 fn next_line(
     words: &mut [u32],
-    index: &mut Option<Index>,
+    index: &mut Index,
     bytes: &[u8],
     setting: Setting,
     out: &mut [u8],
 ) -> Step
-    requires { Tested words.old index.old }
-    ensures { (stepped result words.new out.new ≡ next_line words.old bytes.now setting.last setting.place out.old) × (Tested words.new index.new) }
+    requires { Tested words.old index.old setting.is_sound }
+    ensures { (stepped result words.new out.new ≡ next_line words.old bytes.now setting.last setting.place out.old) × (Tested words.new index.new setting.is_sound) }
 {
     if bytes.is_empty() {
         return if setting.last { Step::Over } else { Step::More };
@@ -73,7 +74,7 @@ fn next_line(
     if out.len() < LONGEST_LINE {
         return Step::Full;
     }
-    let verdict = serve_tested(words, index, bytes);
+    let verdict = serve_tested(words, index, bytes, setting.is_sound);
     let taken = verdict.taken;
     if taken == 0 && !setting.last {
         return Step::More;

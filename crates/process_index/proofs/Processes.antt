@@ -99,11 +99,11 @@ module _ (w : List ℕ) {x : ProcessIndex} where
       building_twice = apart_twice (comparable w) g r this_used same_last
 
   pub building_ends : {i : ℕ} → Stands w → Building w x i → process_rows ≤ i
-      → (true ≡ processes_distinct (unpack w)) × ProcessesIndexed w x
+      → (true ≡ processes_distinct (unpack w)) × (◌≡◌ {A = Bool} true true → ProcessesIndexed w x)
   unfolding processes_distinct
   building_ends s g h =
       let d = apart_ends (comparable w) g h in
-      (d, record { stands = s; chained = all_chained (comparable w) g h; distinct = sym d })
+      (d, λ _. record { stands = s; chained = all_chained (comparable w) g h; distinct = sym d })
 
 -- A PROCESS LOOKED FOR BY IT
 

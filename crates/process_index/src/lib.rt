@@ -1,11 +1,11 @@
 #![tactic(auto)]
 // The processes found by number without a scan, by chains of rows. The index is stale after a write to the processes.
-ghost use Rattle.std.specs.Prelude.{◌≡◌, ◌<◌, ◌%◌, IfSome, is_some};
+ghost use Rattle.std.specs.Prelude.{◌≡◌, true, ◌<◌, ◌%◌};
 ghost use Rattle.model.specs.Sound.{processes_distinct};
 ghost use Rattle.model.specs.Tables.{process_rows, listed, user_of};
 ghost use Rattle.model.specs.Words.{unpack};
 ghost use Rattle.rows.specs.Stands.{Stands};
-ghost use Rattle.index.specs.Buckets.{counted, last_below};
+ghost use Rattle.index.specs.Buckets.{counted, no_links, last_below};
 ghost use Rattle.process_index.specs.Processes.{process_buckets, row_of, ProcessesIndexed};
 
 use index::Links;
@@ -18,24 +18,23 @@ pub const PROCESS_BUCKETS: usize = 127;
 // stays: it goes beside the words, a lent &[u32] by document 01 (rule of the project), so that its fact is one of both and of no type alone.
 pub type ProcessIndex = Links<PROCESS_BUCKETS, PROCESS_ROWS>;
 
-// The index of the listed processes, where they differ in number.
-pub fn index_processes(words: &[u32]) -> Option<ProcessIndex>
-    requires { Stands words.now }
-    ensures { (is_some result ≡ processes_distinct (unpack words.now)) × IfSome result (ProcessesIndexed words.now) }
+// Whether the listed processes differ in number; and where they do, their index.
+pub fn index_processes(words: &[u32], index: &mut ProcessIndex) -> bool
+    requires { (Stands words.now) × (index.old ≡ no_links) }
+    ensures { (result ≡ processes_distinct (unpack words.now)) × (result ≡ true → ProcessesIndexed words.now index.new) }
 {
-    let mut index = ProcessIndex::new();
     for row in 0..PROCESS_ROWS {
         let number = process_number(words, row);
         if number != 0 {
             let bucket = bucket_of(number);
             let alike = |other| process_number(words, other) == number;
             if index.last_in_chain(bucket, alike).is_some() {
-                return None;
+                return false;
             }
             index.link_row(bucket, row);
         }
     }
-    Some(index)
+    true
 }
 
 pub fn is_in_index(words: &[u32], index: &ProcessIndex, process: u16) -> bool

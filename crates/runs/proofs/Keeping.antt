@@ -3,7 +3,6 @@ use mathlib.Core.Path.{◌≡◌, refl, sym, ap, subst, ◌∙◌}
 use mathlib.Core.Bool.{Bool, true, false, not, ◌||◌}
 use mathlib.Core.List.{List}
 use Prim.Native.Nat.{ℕ}
-use Rattle.std.specs.Prelude.{Option, Some}
 use Rattle.model.specs.Refusals.{Outcome, refused, granted}
 use Rattle.model.specs.Tables.{Entry, Tables, entry_rows}
 use Rattle.model.specs.Words.{unpack}
@@ -49,9 +48,8 @@ pub entries_apart : (w : List ℕ) → sound w ≡ true → entries_distinct (un
 unfolding entries_distinct
 entries_apart w e = (words_in_order w e).sound.tree.distinct_entries
 
--- the test where an index was found
-pub tested_some : {w : List ℕ} {found : Option Index} {index : Index} → found ≡ Some index → Tested w found → Tested w (Some index)
-tested_some {w} e t = subst (Tested w) e t
+pub tested_as : {w : List ℕ} {index : Index} {b : Bool} → b ≡ true → Tested w index true → Tested w index b
+tested_as e t = rw e t
 
 -- THE INDEX
 

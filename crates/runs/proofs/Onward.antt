@@ -1,13 +1,12 @@
 -- A run goes on: what was done and what the records that are left give are together what the whole run gives. Assumes nothing.
 use mathlib.Core.Path.{◌≡◌, refl, sym, ap, ap₂, ◌∙◌}
-use mathlib.Core.Bool.{true, false}
+use mathlib.Core.Bool.{Bool, true, false}
 use mathlib.Core.List.{List, [], ◌∷◌, ◌++◌, map, append_assoc}
 use Prim.Native.Nat.{ℕ, zero, suc, ◌+◌, ◌-◌, ◌≤◌, ◌<◌}
 use native.Mathlib.Omega.{arith}
 use native.Mathlib.Numerals.{add-one}
 use lib.ListN.{length, take, drop, set, length-append, length-drop, length-set, take-append-drop}
 use lib.Seq.{length-take-le, take-length, drop-drop, drop-set-lt, take-suc-set}
-use Rattle.std.specs.Prelude.{Option}
 use Rattle.model.specs.Lists.{joined}
 use Rattle.model.specs.Records.{short, taken}
 use Rattle.model.specs.Answers.{answer_slot}
@@ -88,19 +87,19 @@ onward_goes n at w r these slots h =
 -- THE LOOP
 
 -- so many records and bytes are done; v, the index and the slots `filled` are what that left
-pub record Going (w s slots v : List ℕ) (index : Option Index) (filled : List ℕ) (served at : ℕ) : Type 0 where
-  pub tested : Tested v index
+pub record Going (w s slots v : List ℕ) (index : Index) (filled : List ℕ) (is_sound : Bool) (served at : ℕ) : Type 0 where
+  pub tested : Tested v index is_sound
   pub words_long : length v ≡ length w
   pub slots_long : length filled ≡ length slots
   pub inside : at ≤ length s
   pub same : onward served at v (whole_records (length slots - served) (drop at s)) filled ≡ run w s slots
 
-pub going_starts : {w s slots : List ℕ} {index : Option Index} → Tested w index → Going w s slots w index slots 0 0
+pub going_starts : {w s slots : List ℕ} {index : Index} {b : Bool} → Tested w index b → Going w s slots w index slots b 0 0
 going_starts {w} {s} {slots} t =
     let all : length slots - 0 ≡ length slots = omega arith in
     record { tested = t; words_long = refl; slots_long = refl; inside = omega arith; same = rw all (onward_starts w s slots) }
 
-module _ {w s slots v : List ℕ} {index : Option Index} {filled : List ℕ} {n at : ℕ} (going : Going w s slots v index filled n at) where
+module _ {w s slots v : List ℕ} {index : Index} {filled : List ℕ} {b : Bool} {n at : ℕ} (going : Going w s slots v index filled b n at) where
   pub stops_full : length filled ≤ n → told_run (record { served = n; taken = at }) v filled ≡ run w s slots
   unfolding whole_records
   stops_full h =
@@ -134,8 +133,8 @@ module _ {w s slots v : List ℕ} {index : Option Index} {filled : List ℕ} {n 
         let fits = taken_there (whole (drop at s) there) in
         omega (arith, going.inside, takes)
 
-    pub goes_on : n < length filled → {index' : Option Index} → Tested u index' → length u ≡ length v → {slot : ℕ} → slot ≡ answer_slot r.answer
-        → Going w s slots u index' (set filled n slot) (n + 1) (at + r.taken)
+    pub goes_on : n < length filled → {index' : Index} → Tested u index' b → length u ≡ length v → {slot : ℕ} → slot ≡ answer_slot r.answer
+        → Going w s slots u index' (set filled n slot) b (n + 1) (at + r.taken)
     goes_on h t long {slot} told =
         record {
           tested = t;

@@ -1,6 +1,6 @@
 #![tactic(auto)]
 // Records served over lent tables, which are tested once: sound tables stay sound.
-ghost use Rattle.std.specs.Prelude.{◌≡◌, true, false, ◌<◌, Some, is_some};
+ghost use Rattle.std.specs.Prelude.{◌≡◌, true, false, ◌<◌};
 ghost use Rattle.model.specs.Calls.{step};
 ghost use Rattle.model.specs.Answers.{answer_number, number_of, word_number};
 ghost use Rattle.model.specs.Serve.{judged, run};
@@ -48,11 +48,12 @@ pub struct Run {
 pub fn serve_run(words: &mut [u32], records: &[u8], answers: &mut [u64]) -> Run
     ensures { told_run result words.new answers.new ≡ run words.old records.now answers.old }
 {
-    let mut index = sound_and_index(words);
+    let mut index = Index::new();
+    let is_sound = sound_and_index(words, &mut index);
     let mut taken = 0;
     for (served, slot) in answers.iter_mut().enumerate() {
         let bytes = &records[taken..];
-        let Some(verdict) = serve_whole(words, &mut index, bytes) else {
+        let Some(verdict) = serve_whole(words, &mut index, bytes, is_sound) else {
             return Run { served, taken };
         };
         *slot = told_answer(verdict.answer, 0);
@@ -83,12 +84,13 @@ pub fn told_answer(answer: Answer, taken: u64) -> u64
     }
 }
 
+// stays: no plainer: an Option<&mut Index> in the place of index and is_sound would be reborrowed for each record, and its None says no more than false.
 // The record at the front of the bytes over tables that were tested before: what `service::serve` gives, and the test still holds.
-pub fn serve_tested(words: &mut [u32], index: &mut Option<Index>, bytes: &[u8]) -> Verdict
-    requires { Tested words.old index.old }
-    ensures { (Serves words.old bytes.now result words.new) × ((Tested words.new index.new) × (is_some index.new ≡ is_some index.old)) }
+pub fn serve_tested(words: &mut [u32], index: &mut Index, bytes: &[u8], is_sound: bool) -> Verdict
+    requires { Tested words.old index.old is_sound }
+    ensures { (Serves words.old bytes.now result words.new) × (Tested words.new index.new is_sound) }
 {
-    match serve_whole(words, index, bytes) {
+    match serve_whole(words, index, bytes, is_sound) {
         Some(verdict) => verdict,
         None => Verdict {
             answer: Answer::Refused(SHORT_RECORD),
@@ -98,27 +100,38 @@ pub fn serve_tested(words: &mut [u32], index: &mut Option<Index>, bytes: &[u8]) 
 }
 
 // The same where the record is whole, and else nothing.
-fn serve_whole(words: &mut [u32], index: &mut Option<Index>, bytes: &[u8]) -> Option<Verdict>
-    requires { Tested words.old index.old }
-    ensures { (ServesWhole words.old bytes.now result words.new) × ((Tested words.new index.new) × (is_some index.new ≡ is_some index.old)) }
+fn serve_whole(
+    words: &mut [u32],
+    index: &mut Index,
+    bytes: &[u8],
+    is_sound: bool,
+) -> Option<Verdict>
+    requires { Tested words.old index.old is_sound }
+    ensures { (ServesWhole words.old bytes.now result words.new) × (Tested words.new index.new is_sound) }
 {
     let found = read(bytes);
     if is_cut_short(found) {
         return None;
     }
     let taken = taken_of(found);
-    let answer = serve_found(words, index, bytes, found);
+    let answer = serve_found(words, index, bytes, found, is_sound);
     Some(Verdict { answer, taken })
 }
 
 // One whole record over tables that were tested before.
-fn serve_found(words: &mut [u32], index: &mut Option<Index>, bytes: &[u8], found: Reading) -> Answer
-    requires { (Tested words.old index.old) × ((found ≡ reading bytes.now) × (cut_short found ≡ false)) }
-    ensures { (Meets words.old (judged words.old bytes.now) result words.new) × ((Tested words.new index.new) × (is_some index.new ≡ is_some index.old)) }
+fn serve_found(
+    words: &mut [u32],
+    index: &mut Index,
+    bytes: &[u8],
+    found: Reading,
+    is_sound: bool,
+) -> Answer
+    requires { (Tested words.old index.old is_sound) × ((found ≡ reading bytes.now) × (cut_short found ≡ false)) }
+    ensures { (Meets words.old (judged words.old bytes.now) result words.new) × (Tested words.new index.new is_sound) }
 {
-    let Some(index) = index else {
+    if !is_sound {
         return Answer::Refused(UNSOUND);
-    };
+    }
     match found {
         Err(rejected) => Answer::Refused(rejected.number),
         Ok(accepted) => {
@@ -131,7 +144,7 @@ fn serve_found(words: &mut [u32], index: &mut Option<Index>, bytes: &[u8], found
 // An accepted record: its call, and then the index anew where entries were written.
 fn serve_call(words: &mut [u32], index: &mut Index, call: Record) -> Answer
     requires { Ready words.old index.old call.bytes.now call.fields }
-    ensures { (Meets words.old (step (unpack words.old) (call_in call.entry.bytes.now call.entry.fields)) result words.new) × (Tested words.new (Some index.new)) }
+    ensures { (Meets words.old (step (unpack words.old) (call_in call.entry.bytes.now call.entry.fields)) result words.new) × (Tested words.new index.new true) }
 {
     let answer = dispatch(words, index, call);
     if !leaves_entries(call.fields.call, answer) {
@@ -150,7 +163,6 @@ fn index_anew(words: &[u32], index: &mut Index)
     requires { sound words.now ≡ true }
     ensures { Indexed words.now index.new }
 {
-    if let Some(anew) = index_entries(words) {
-        *index = anew;
-    }
+    *index = Index::new();
+    index_entries(words, index);
 }

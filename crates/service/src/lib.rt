@@ -7,6 +7,7 @@ ghost use Rattle.rows.specs.Meets.{Meets};
 ghost use Rattle.service.specs.Serves.{Serves};
 
 use dispatch::dispatch;
+use index::Index;
 use model::{Answer, SHORT_RECORD, UNSOUND, Verdict};
 use reaching::Record;
 use records::{Reading, is_cut_short, read, taken_of};
@@ -30,9 +31,10 @@ fn judge(words: &mut [u32], bytes: &[u8], found: Reading) -> Answer
     if is_cut_short(found) {
         return Answer::Refused(SHORT_RECORD);
     }
-    let Some(index) = sound_and_index(words) else {
+    let mut index = Index::new();
+    if !sound_and_index(words, &mut index) {
         return Answer::Refused(UNSOUND);
-    };
+    }
     match found {
         Err(rejected) => Answer::Refused(rejected.number),
         Ok(accepted) => {

@@ -4,8 +4,6 @@ use mathlib.Core.Bool.{Bool, true, false, ◌&&◌}
 use mathlib.Core.List.{List, [], ◌∷◌}
 use Prim.Native.Nat.{ℕ}
 use lib.ListN.{length}
-use Rattle.std.specs.Prelude.{is_some, IfSome}
-use Rattle.std.specs.Bool.{then_some}
 use Rattle.model.specs.Words.{unpack}
 use Rattle.model.specs.Sound.{entries_distinct, entries_in_directories, entries_lead_to_nodes, counts_right, first_node_right, counts_fit, holds_distinct, holds_in_directories, holds_of_listed, ends_of_one_user, processes_distinct, names_valid, roles_valid, targets_valid, sound_rows, exact, sound_with, sound}
 use Rattle.laws.proofs.Bools.{and_left, and_right, both}
@@ -88,8 +86,3 @@ module _ (w : List ℕ) (s : shaped w ≡ true) where
 
   pub rules_decide : entries_distinct (unpack w) ≡ true → {r : Bool} → r ≡ (tree_rules (unpack w) && hold_rules (unpack w)) → r ≡ sound w
   rules_decide d q = q ∙ sym (rw (s, d)) ∙ sound_by_groups w
-
--- what is kept where the rules hold
-pub kept_where : {A : Type 0} (P : A → Type 0) (r : Bool) {s : Bool} {x : A} → r ≡ s → P x → (is_some (then_some r x) ≡ s) × IfSome (then_some r x) P
-kept_where P true e p = (e, p)
-kept_where P false e p = (e, tt)

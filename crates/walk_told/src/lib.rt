@@ -6,6 +6,7 @@ ghost use Rattle.model.specs.Lists.{joined};
 ghost use Rattle.walk_told.specs.Arrivals.{walking, Arrives, goal_size, place_size, most_elements, elements_at, place_words, end_place, goal_words, arrival_at};
 
 use goals::{Place, Stop, Walk};
+use index::Index;
 use model::{BAD_PATH, UNSOUND};
 use paths::valid_path;
 use rows::{Block, ROOT};
@@ -34,9 +35,10 @@ pub fn walk_to(
     ensures { Arrives (walking words.now path.now follow_last) result goal.new }
 {
     *goal = [0; GOAL_WORDS];
-    let Some(index) = sound_and_index(words) else {
+    let mut index = Index::new();
+    if !sound_and_index(words, &mut index) {
         return Err(UNSOUND);
-    };
+    }
     if !valid_path(path) {
         return Err(BAD_PATH);
     }

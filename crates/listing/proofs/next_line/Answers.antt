@@ -18,7 +18,7 @@ returns-then-out-lt-LONGEST_LINE c =
 pub returns-then-not-setting : goal.returns-then-not-setting
 returns-then-not-setting c = (
   step_too_short_yet _ _ _ _ _ (some_left c.args.bytes.now c.if-is_empty.ensures) c.if-out-lt-LONGEST_LINE.false c.serve_tested-verdict.ensures.0 c.if-taken-eq0.true c.if-not-setting.true,
-  c.serve_tested-verdict.ensures.1.0,
+  c.serve_tested-verdict.ensures.1,
 )
 
 pub put_line-length-requires : goal.put_line-length-requires
@@ -37,12 +37,12 @@ returns-then-taken-eq0-2 c = (
         step_last_line _ _ _ _ _ (some_left c.args.bytes.now c.if-is_empty.ensures) c.if-out-lt-LONGEST_LINE.false c.serve_tested-verdict.ensures.0 c.put_line-length.ensures w.if-taken-eq0-2.false
         w.if-setting-eq18446744073709551615.true
   ],
-  c.serve_tested-verdict.ensures.1.0,
+  c.serve_tested-verdict.ensures.1,
 )
 
 pub returns : goal.returns
 returns c = (
   step_line _ _ _ _ _ (some_left c.args.bytes.now c.if-is_empty.ensures) c.if-out-lt-LONGEST_LINE.false c.serve_tested-verdict.ensures.0 c.put_line-length.ensures c.if-taken-eq0-2.false
       c.if-setting-eq18446744073709551615.false,
-  c.serve_tested-verdict.ensures.1.0,
+  c.serve_tested-verdict.ensures.1,
 )

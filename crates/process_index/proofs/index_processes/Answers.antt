@@ -1,4 +1,5 @@
 -- `process_index::index_processes` meets its contract: each used row is looked for among the rows before it, and then chained. Assumes nothing.
+use mathlib.Core.Bool.{false≢true}
 use mathlib.Core.Path.{◌∙◌}
 use Prim.Native.Nat.{◌<◌}
 use native.Mathlib.Omega.{arith}
@@ -9,11 +10,11 @@ use Rattle.process_index.proofs.index_processes.Goals as goal
 use Rattle.process_index.proofs.index_processes.Goals.{then-number-ne0+else-is_some, else-number-ne0}
 
 pub loop-row-init : goal.loop-row-init
-loop-row-init c = building_starts c.args.words.now c.new-index.ensures
+loop-row-init c = building_starts c.args.words.now c.requires.1
 
 pub last_in_chain-requires : goal.last_in_chain-requires
 last_in_chain-requires c =
-    let stands = c.requires in
+    let stands = c.requires.0 in
     let small : 382 < 9223372036854775808 = omega arith in
     let bucket = c.bucket_of-bucket.ensures.1 in
     (small, (bucket, number_asked c.args.words.now c.loop-row.invariant.chained bucket (λ k l. search rules)))
@@ -26,7 +27,7 @@ returns-then-is_some c =
     (λ k answer a. search rules) in (
       building_twice c.args.words.now c.loop-row.invariant c.loop-row-test.true c.process_number-number.ensures
           c.if-number-ne0.true last (some_counted _ c.if-is_some.ensures),
-      tt,
+      λ e. absurd (false≢true e),
     )
 
 pub loop-row-preserved : goal.loop-row-preserved
@@ -46,4 +47,4 @@ loop-row-preserved c =
     ]
 
 pub returns : goal.returns
-returns c = building_ends c.args.words.now c.requires c.loop-row.invariant c.loop-row-test.false
+returns c = building_ends c.args.words.now c.requires.0 c.loop-row.invariant c.loop-row-test.false

@@ -12,10 +12,10 @@ index_anew-requires c = sound_after c.requires c.dispatch-answer.ensures
 pub returns-then-not-leaves_entries : goal.returns-then-not-leaves_entries
 returns-then-not-leaves_entries c =
     let sound = sound_after c.requires c.dispatch-answer.ensures in
-    (c.dispatch-answer.ensures, record { right = sym sound; indexed = c.index_anew.ensures })
+    (c.dispatch-answer.ensures, record { right = sym sound; indexed = λ _. c.index_anew.ensures })
 
 pub returns-else-not-leaves_entries : goal.returns-else-not-leaves_entries
 returns-else-not-leaves_entries c =
     let sound = sound_after c.requires c.dispatch-answer.ensures in
     let leaves = sym c.leaves_entries.ensures ∙ c.if-not-leaves_entries.false in
-    (c.dispatch-answer.ensures, record { right = sym sound; indexed = index_after c.requires c.dispatch-answer.ensures leaves })
+    (c.dispatch-answer.ensures, record { right = sym sound; indexed = λ _. index_after c.requires c.dispatch-answer.ensures leaves })

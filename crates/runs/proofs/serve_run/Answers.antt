@@ -8,7 +8,7 @@ use Rattle.model.specs.Answers.{answer_slot}
 use Rattle.runs.proofs.serve_run.Goals as goal
 
 pub loop-served-init : goal.loop-served-init
-loop-served-init c = going_starts (record { right = c.sound_and_index-index.ensures.0; indexed = c.sound_and_index-index.ensures.1 })
+loop-served-init c = going_starts (record { right = c.sound_and_index-is_sound.ensures.0; indexed = c.sound_and_index-is_sound.ensures.1 })
 
 pub slice_bounds-bytes-count : goal.slice_bounds-bytes-count
 slice_bounds-bytes-count c = omega (arith, c.loop-served.invariant.inside)
@@ -34,7 +34,7 @@ unfolding answer_slot
 loop-served-preserved c =
     let going = c.loop-served.invariant in
     let whole = c.in-Some.ensures in
-    goes_on going whole.0.0 whole.0.1 (omega (arith, going.slots_long)) whole.1.0 c.serve_whole.auto.words c.told_answer.ensures
+    goes_on going whole.0.0 whole.0.1 (omega (arith, going.slots_long)) whole.1 c.serve_whole.auto.words c.told_answer.ensures
 
 pub returns : goal.returns
 returns c =

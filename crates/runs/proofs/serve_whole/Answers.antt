@@ -9,7 +9,7 @@ use Rattle.runs.proofs.serve_whole.Goals as goal
 pub returns-then-is_cut_short : goal.returns-then-is_cut_short
 returns-then-is_cut_short c =
     let asks = c.is_cut_short.ensures ∙ ap cut_short c.read-found.ensures ∙ short_found _ in
-    ((sym asks ∙ c.if-is_cut_short.true, refl), (c.requires, refl))
+    ((sym asks ∙ c.if-is_cut_short.true, refl), c.requires)
 
 pub serve_found-answer-requires : goal.serve_found-answer-requires
 serve_found-answer-requires c = (c.requires, (c.read-found.ensures, sym c.is_cut_short.ensures ∙ c.if-is_cut_short.false))

@@ -6,28 +6,31 @@ use mathlib.Core.Path.{ap}
 use mathlib.Core.Bool.{not}
 use Rattle.walk_told.proofs.walk_to.Goals as goal
 
-pub returns-in_default : goal.returns-in_default
-returns-in_default c = unsound_arrives c.args.words.now c.args.path.now c.args.follow_last c.in_default.ensures.0 refl
+pub returns-then-not-sound_and_index : goal.returns-then-not-sound_and_index
+returns-then-not-sound_and_index c =
+    unsound_arrives c.args.words.now c.args.path.now c.args.follow_last c.sound_and_index.ensures.0
+    (ap not c.if-not-sound_and_index.true)
 
 pub returns-then-not-valid_path : goal.returns-then-not-valid_path
 returns-then-not-valid_path c =
-    invalid_arrives c.args.words.now c.args.path.now c.args.follow_last c.in-Some.ensures.0
-    refl c.valid_path.ensures (ap not c.if-not-valid_path.true)
+    invalid_arrives c.args.words.now c.args.path.now c.args.follow_last c.sound_and_index.ensures.0
+    (ap not c.if-not-sound_and_index.false) c.valid_path.ensures (ap not c.if-not-valid_path.true)
 
 pub walk-walked-requires : goal.walk-walked-requires
 walk-walked-requires c =
-    let rows = sound_has_sound_rows c.args.words.now (sym c.in-Some.ensures.0) in
-    record { indexed = c.in-Some.ensures.1; sound = rows; valid = sym c.valid_path.ensures ∙ c.if-not-valid_path.false }
+    let found-sound = c.if-not-sound_and_index.false in
+    let rows = sound_has_sound_rows c.args.words.now (sym c.sound_and_index.ensures.0 ∙ found-sound) in
+    record { indexed = c.sound_and_index.ensures.1 found-sound; sound = rows; valid = sym c.valid_path.ensures ∙ c.if-not-valid_path.false }
 
 pub put_goal-requires : goal.put_goal-requires
 put_goal-requires c =
     let roomy =
     walk_roomy c.args.words.now c.args.path.now c.args.follow_last
-    (sym c.in-Some.ensures.0) c.walk-walked.ensures in
+    (sym c.sound_and_index.ensures.0 ∙ c.if-not-sound_and_index.false) c.walk-walked.ensures in
     (refl, (roomy.few, roomy.room))
 
 pub returns : goal.returns
 returns c =
-    walk_arrives c.args.words.now c.args.path.now c.args.follow_last c.in-Some.ensures.0
-    refl c.valid_path.ensures (ap not c.if-not-valid_path.false) c.walk-walked.ensures c.put_goal.ensures
+    walk_arrives c.args.words.now c.args.path.now c.args.follow_last c.sound_and_index.ensures.0
+    (ap not c.if-not-sound_and_index.false) c.valid_path.ensures (ap not c.if-not-valid_path.false) c.walk-walked.ensures c.put_goal.ensures
     c.arrival_at.ensures

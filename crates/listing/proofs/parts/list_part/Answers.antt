@@ -6,7 +6,7 @@ use Rattle.listing.proofs.parts.list_part.Goals as goal
 pub loop-taken-init : goal.loop-taken-init
 loop-taken-init c = (
   onward_first _ _ _ _ _ (omega (arith, c.ranges.place.fits)),
-  record { right = c.sound_and_index-index.ensures.0; indexed = c.sound_and_index-index.ensures.1 },
+  record { right = c.sound_and_index-is_sound.ensures.0; indexed = c.sound_and_index-is_sound.ensures.1 },
 )
 
 pub overflow_add-from : goal.overflow_add-from

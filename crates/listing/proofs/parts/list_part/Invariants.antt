@@ -6,7 +6,7 @@ use Rattle.listing.proofs.parts.list_part.Given as goal
 
 abbrev pub invariant-loop-taken : goal.invariant-loop-taken
 invariant-loop-taken l =
-    Onward l.initial.words l.bytes l.last l.initial.place l.initial.out l.words l.out l.from l.at l.place × Tested l.words l.index
+    Onward l.initial.words l.bytes l.last l.initial.place l.initial.out l.words l.out l.from l.at l.place × Tested l.words l.index l.is_sound
 
 abbrev pub decreases-loop-taken : goal.decreases-loop-taken
 decreases-loop-taken l = length l.bytes - l.from
