@@ -12,12 +12,12 @@ use Rattle.std.specs.Fmt.{decimal}
 use Rattle.std.proofs.lemmas.Fmt.{decimal_by_steps}
 use Rattle.model.specs.Listing.{digits}
 
-one_digit : (k : ℕ) {n : ℕ} → n < 10 → digits k n ≡ (48 + n) ∷ []
+pub one_digit : (k : ℕ) {n : ℕ} → n < 10 → digits k n ≡ (48 + n) ∷ []
 unfolding digits
 one_digit zero h = refl
 one_digit (suc k) {n} h = simp (lt-ltb n 10 h, digits)
 
-more_digits : (k : ℕ) {n : ℕ} → 10 ≤ n → digits (suc k) n ≡ digits k (n / 10) ++ ((48 + n % 10) ∷ [])
+pub more_digits : (k : ℕ) {n : ℕ} → 10 ≤ n → digits (suc k) n ≡ digits k (n / 10) ++ ((48 + n % 10) ∷ [])
 unfolding digits
 more_digits k {n} h = simp (le-ltb n 10 h, digits)
 
@@ -26,7 +26,7 @@ shorter : (k n : ℕ) → n < 10 ^ suc (suc k) → n / 10 < 10 ^ suc k
 shorter k n h = let e = pow-add 10 1 (suc k) in omega arith
 
 -- as many digits as the number has are enough, and more change nothing
-alike_digits : (k m n : ℕ) → n < 10 ^ suc k → n < 10 ^ suc m → digits k n ≡ digits m n
+pub alike_digits : (k m n : ℕ) → n < 10 ^ suc k → n < 10 ^ suc m → digits k n ≡ digits m n
 alike_digits zero m n h l = let s : n < 10 = h in one_digit 0 s ∙ sym (one_digit m s)
 alike_digits (suc k) zero n h l = let s : n < 10 = l in one_digit (suc k) s ∙ sym (one_digit 0 s)
 alike_digits (suc k) (suc m) n h l = go (ltb n 10) refl (alike_digits k m (n / 10) (shorter k n h) (shorter m n l))
@@ -48,7 +48,7 @@ digit_count (suc k) n = go (ltb n 10) refl (digit_count k (n / 10))
 
 -- A NUMBER OF 64 BITS: 20 digits are enough
 
-last_digit : {n : ℕ} → n < 2 ^ 64 → 10 ≤ n → digits 19 n ≡ digits 19 (n / 10) ++ ((48 + n % 10) ∷ [])
+pub last_digit : {n : ℕ} → n < 2 ^ 64 → 10 ≤ n → digits 19 n ≡ digits 19 (n / 10) ++ ((48 + n % 10) ∷ [])
 last_digit {n} f h = more_digits 18 h ∙ ap (λ l. l ++ ((48 + n % 10) ∷ [])) (alike_digits 18 19 (n / 10) (omega arith) (omega arith))
 
 -- five digits are enough for a number of 16 bits
