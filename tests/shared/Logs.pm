@@ -48,10 +48,11 @@ sub fact_of {
     return $error =~ /^ `([^`]+)`:/ ? $1 : '';
 }
 
-# Whether an error only says that the proof names what the changed code has no more: that shows nothing of a fact.
+# Whether an error only says that the proof names what the changed code has no more, or that a loop's variables are not those of which its invariant speaks: that
+# shows nothing of a fact.
 sub is_of_form {
     my ($error) = @_;
-    return $error =~ /has no `|has no field|is not in scope/;
+    return $error =~ /has no `|has no field|is not in scope/ || fact_of($error) =~ /^invariant-/;
 }
 
 1;

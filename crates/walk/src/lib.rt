@@ -2,7 +2,7 @@
 // A path walked over the lent tables: names looked up one after the other, links followed on the way. Document 01, 'Walking a path'.
 // Walking names calls following a link, which walks the names of its target. Names go by a loop, in which the bytes left fall; a call comes
 // with each link alone, and the links left fall, so that the stack is that of nine walks of names at the most. On the way a link is known by
-// the row of its entry, in two bytes; its place is read where the walk is over.
+// the row of its entry alone; its place is read where the walk is over.
 ghost use Rattle.std.specs.Prelude.{◌≡◌, true, false, [], ◌∷◌, map, ◌<◌, eqb};
 ghost use Rattle.model.specs.Paths.{names, slash, valid_names, valid_path};
 ghost use Rattle.model.specs.Tables.{entry_rows, a_link, node_at};
