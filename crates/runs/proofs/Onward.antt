@@ -133,8 +133,8 @@ module _ {w s slots v : List ℕ} {index : Index} {filled : List ℕ} {b : Bool}
         let fits = taken_there (whole (drop at s) there) in
         omega (arith, going.inside, takes)
 
-    pub goes_on : n < length filled → {index' : Index} → Tested u index' b → length u ≡ length v → {slot : ℕ} → slot ≡ answer_slot r.answer
-        → Going w s slots u index' (set filled n slot) b (n + 1) (at + r.taken)
+    pub goes_on : n < length filled → {index' : Index} {b' : Bool} → Tested u index' b' → length u ≡ length v → {slot : ℕ} → slot ≡ answer_slot r.answer
+        → Going w s slots u index' (set filled n slot) b' (n + 1) (at + r.taken)
     goes_on h t long {slot} told =
         record {
           tested = t;
